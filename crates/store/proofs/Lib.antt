@@ -1,7 +1,2 @@
 pub mod Answering
-pub mod Memory
-pub mod PlainParts
-pub mod Walks
-pub mod ChainParts
-pub mod Pool
 pub mod SpanLaws

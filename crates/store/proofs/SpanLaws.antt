@@ -6,19 +6,18 @@ use mathlib.Core.Logic.{_⊎_, inl, inr, ⊎-elim}
 use Prim.Native.Nat.{ℕ, zero, suc, _+_, _-_, _*_, _/_, _%_, _^_, _≤_, _<_}
 use native.Mathlib.Numerals.{add-one}
 use native.Mathlib.Omega.{arith}
-use lib.Seq.{take-add}
+use lib.Seq.{take-add, take-append-le, drop-append-le, drop-at}
 use borrow.Rule.Slice.PartMut.{putMid}
 use lib.Dec.{eqb, ltb}
-use lib.ListN.{length, getD, set, take, drop, length-append}
+use lib.ListN.{length, getD, set, take, drop, length-append, length-drop}
 use Rattle.std.specs.declared.result.Result.the-variants.{Ok, Err}
 use Rattle.std.proofs.shelf.Lists.{length-set, length-map, getD-map, getD-set-same, getD-set-other, take-all, take-more}
 use Rattle.std.proofs.shelf.Parts.{take-putMid, between-is}
 use Rattle.std.proofs.shelf.Tests.{cases-lt, cases-eq, cond-true, eq-eqb}
 use Rattle.store.specs.declared.faults.Fault.{Fault}
 use Rattle.store.specs.Faults.{Answer, andThen, onlyIf, inFile, named}
-use Rattle.store.specs.Rows.{Segment, good, bad, isGood, bytesOf, goods, Proper, answer, readAfter, writeAfter}
-use Rattle.store.specs.PlainRows.{bytesFrom}
-use Rattle.store.specs.Spans.{span, probe, spanAnswer, put, Wrote}
+use Rattle.store.specs.Rows.{Segment, good, bad, isGood, bytesOf, goods, Proper, answer, readAfter, writeAfter, bytesFrom}
+use Rattle.store.specs.Spans.{span, probe, spanAnswer, put, copyAnswer, Wrote}
 use Rattle.store.proofs.Answering.{refused-not-done, Allowed, allowed-means, goods-set, answer-goods}
 
 named-done : (file : ℕ) (a : Answer) (u : Unit {0}) → Ok u ≡ named file a → a ≡ Ok tt
@@ -160,10 +159,8 @@ put-holds row first (suc n) bytes e =
     below : (i : ℕ) → i < first + n → i ≡ first + n → ⊥
     below i c z = omega arith
 
-pub put-wrote : (row : List Segment) (first : ℕ) (bytes : List ℕ) → length bytes % 512 ≡ 0 → probe row first (length bytes / 512) ≡ Ok tt
-    → Wrote row (put row first (length bytes / 512) bytes) first (length bytes / 512) bytes
-put-wrote row first bytes h e =
-    let n = length bytes / 512 in
+pub put-wrote : (row : List Segment) (first n : ℕ) (bytes : List ℕ) → length bytes ≡ n * 512 → probe row first n ≡ Ok tt → Wrote row (put row first n bytes) first n bytes
+put-wrote row first n bytes h e =
     record {
       holds = put-holds row first n bytes e ∙ take-all (n * 512) bytes (omega arith);
       apart = λ at m o. same-span row (put row first n bytes) at m (λ i a b. put-other row first n bytes i (⊎-elim (λ (k : at + m ≤ first). inl (omega arith)) (λ (k : first + n ≤ at). inr (omega arith)) o));
@@ -179,3 +176,48 @@ put-more row row′ row″ first n i bytes part e l h q s w =
       ap (λ r. answer r (first + i) (length part)) h ∙ answer-goods row (put row first i bytes) (first + i) (length part) g ∙ ap (answer row (first + i)) s ∙ probed row first n i e l in
     let step : row″ ≡ put row first (suc i) bytes = w ∙ only-done (answer row′ (first + i) (length part)) _ row′ a ∙ ap₂ (λ r x. set r (first + i) (good x)) h q in
     rw add-one step
+
+-- the segments of a span that was probed hold 512 bytes each
+full-bytes : (row : List Segment) (s : Segment) (i : ℕ) → Proper row → getD row i bad ≡ s → isGood s ≡ true → length (bytesOf s) ≡ 512
+full-bytes row (good bytes) i p h g = p .full i bytes h
+full-bytes row bad i p h g = absurd (let z : _≡_ {A = ℕ} 0 1 = cc in omega arith)
+
+pub full-segment : (row : List Segment) (i size : ℕ) → Proper row → answer row i size ≡ Ok tt → length (bytesOf (getD row i bad)) ≡ 512
+full-segment row i size p a = full-bytes row (getD row i bad) i p refl (allowed-means row i size a .holds)
+
+pub length-span : (row : List Segment) (first n : ℕ) → Proper row → probe row first n ≡ Ok tt → length (span row first n) ≡ n * 512
+length-span row first zero p e = refl
+length-span row first (suc n) p e =
+    let q = and-done (probe row first n) (answer row (first + n) 512) e in
+    let a = length-span row first n p (q .0) in
+    let b = full-segment row (first + n) 512 p (q .1) in
+    simp length-append (omega arith)
+
+bytes-left : (xs ys : List ℕ) (a : ℕ) → a + 512 ≤ length xs → bytesFrom (xs ++ ys) a ≡ bytesFrom xs a
+bytes-left xs ys a h =
+    let n : a + 512 - a ≤ length (drop a xs) = simp length-drop (omega arith) in
+    ap (take (a + 512 - a)) (drop-append-le a xs ys (omega arith)) ∙ take-append-le (a + 512 - a) (drop a xs) ys n
+
+bytes-right : (xs ys : List ℕ) (a : ℕ) → length xs ≡ a → length ys ≡ 512 → bytesFrom (xs ++ ys) a ≡ ys
+bytes-right xs ys a h l = ap (take (a + 512 - a)) (drop-at xs ys a h) ∙ take-all (a + 512 - a) ys (omega arith)
+
+pub span-at : (row : List Segment) (first n i : ℕ) → Proper row → probe row first n ≡ Ok tt → i < n → bytesFrom (span row first n) (i * 512) ≡ bytesOf (getD row (first + i) bad)
+span-at row first zero i p e l = absurd (omega arith)
+span-at row first (suc n) i p e l =
+    let q = and-done (probe row first n) (answer row (first + n) 512) e in
+    let m = length-span row first n p (q .0) in
+    let x = bytesOf (getD row (first + n) bad) in
+    ⊎-elim
+    (λ (k : i < n). bytes-left (span row first n) x (i * 512) (omega arith) ∙ span-at row first n i p (q .0) k)
+    (λ (k : n ≤ i). let z : i ≡ n = omega arith in
+    ap (λ j. bytesFrom (span row first n ++ x) (j * 512)) z ∙ bytes-right (span row first n) x (n * 512) m (full-segment row (first + n) 512 p (q .1)) ∙ ap (λ j. bytesOf (getD row (first + j) bad)) (sym z))
+    (cases-lt i n)
+
+-- the ways that a copy is answered
+pub copy-refused-first : (from to : List Segment) (file first n : ℕ) (f : Fault) → Err f ≡ named file (probe from first n) → Err f ≡ named file (copyAnswer from to first n)
+copy-refused-first from to file first n f e =
+    let r = named-refused file (probe from first n) f e in
+    e ∙ ap (named file) (r .1 ∙ sym (ap (λ a. andThen a (probe to first n)) (r .1)))
+
+pub copy-asked : (from to : List Segment) (first n : ℕ) → probe from first n ≡ Ok tt → copyAnswer from to first n ≡ probe to first n
+copy-asked from to first n e = ap (λ a. andThen a (probe to first n)) e

@@ -2,9 +2,10 @@
 use mathlib.Core.Path.{_≡_}
 use mathlib.Core.Bool.{Bool, true, false}
 use mathlib.Core.List.{List, [], _∷_, map}
-use Prim.Native.Nat.{ℕ, _^_, _<_}
+use Prim.Native.Nat.{ℕ, _+_, _^_, _<_}
 use lib.Dec.{eqb, ltb}
 use lib.ListN.{length, getD, set}
+use Rattle.std.specs.Holes.{between}
 use Rattle.store.specs.declared.faults.Refusal.the-variants.{WrongBuffer, NoSegment, BadSegment}
 use Rattle.store.specs.Faults.{Answer, asks, firstNo, onlyIf}
 
@@ -20,6 +21,10 @@ isGood bad = false
 abbrev pub bytesOf : Segment → List ℕ
 bytesOf (good bytes) = bytes
 bytesOf bad = []
+
+-- the 512 bytes of some memory from a place on
+abbrev pub bytesFrom : List ℕ → ℕ → List ℕ
+bytesFrom memory start = between start (start + 512) memory
 
 -- which segments of a row are good
 abbrev pub goods : List Segment → List Bool

@@ -9,8 +9,7 @@ use lib.ListN.{length, getD, set}
 use Rattle.std.specs.declared.result.Result.the-variants.{Ok, Err}
 use Rattle.store.specs.declared.faults.Refusal.the-variants.{WrongBuffer}
 use Rattle.store.specs.Faults.{Answer, faultOf, onlyIf, andThen}
-use Rattle.store.specs.Rows.{Segment, good, bad, bytesOf, goods, answer}
-use Rattle.store.specs.PlainRows.{bytesFrom}
+use Rattle.store.specs.Rows.{Segment, good, bad, bytesOf, goods, answer, bytesFrom}
 
 -- the bytes of n segments from the first on
 abbrev pub span : List Segment → ℕ → ℕ → List ℕ
@@ -44,3 +43,10 @@ pub record Wrote (row after : List Segment) (first n : ℕ) (bytes : List ℕ) :
   pub holds : span after first n ≡ bytes
   pub apart : (at m : ℕ) → (at + m ≤ first) ⊎ (first + n ≤ at) → span after at m ≡ span row at m
   pub marks : goods after ≡ goods row
+
+-- the answer to a span that is copied from one row to the same place of another, and the other row then
+abbrev pub copyAnswer : List Segment → List Segment → ℕ → ℕ → Answer
+copyAnswer from to first n = andThen (probe from first n) (probe to first n)
+
+abbrev pub copyAfter : List Segment → List Segment → ℕ → ℕ → List Segment
+copyAfter from to first n = onlyIf (copyAnswer from to first n) (put to first n (span from first n)) to

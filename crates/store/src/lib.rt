@@ -1,6 +1,5 @@
-//! Segment stores: a numbered row of segments, each good with 512 bytes or bad,
-//! behind three calls. `plain` and `chained` are the two makes, `spans` reads and
-//! writes several segments one behind another.
+//! Segment stores: a numbered row of segments, each good with 512 bytes or bad, behind three
+//! calls. `spans` has what files do with them: several segments, one behind another.
 ghost use base.Fml.{GName};
 ghost use mathlib.Core.Bool.{Bool};
 ghost use mathlib.Core.List.{List};
@@ -9,10 +8,7 @@ ghost use Prim.Native.Nat.{ℕ};
 ghost use lib.ListN.{length};
 ghost use Rattle.store.specs.Rows.{Segment, Proper, goods, answer, readAfter, writeAfter};
 
-pub mod chained;
 pub mod faults;
-pub mod index;
-pub mod plain;
 pub mod spans;
 
 use faults::Fault;

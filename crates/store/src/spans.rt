@@ -8,7 +8,7 @@ ghost use lib.ListN.{length};
 ghost use Rattle.std.specs.declared.result.Result.the-variants.{Ok};
 ghost use Rattle.store.specs.Faults.{named};
 ghost use Rattle.store.specs.Rows.{goods};
-ghost use Rattle.store.specs.Spans.{probe, spanAnswer, readSpanAfter, writeSpanAfter, Wrote};
+ghost use Rattle.store.specs.Spans.{probe, span, spanAnswer, readSpanAfter, writeSpanAfter, copyAnswer, copyAfter, Wrote};
 use super::SEGMENT;
 use super::SegmentStore;
 use super::faults::Fault;
@@ -74,6 +74,30 @@ pub fn write_span<S: SegmentStore>(
     for i in 0..n {
         let start = i * SEGMENT;
         of_file(file, store.write(first + i, &buffer[start..start + SEGMENT]))?;
+    }
+    Ok(())
+}
+
+/// Copies the `n` segments from `first` on to the same places of another store.
+pub fn copy_span<S: SegmentStore, T: SegmentStore>(
+    from: &S,
+    to: &mut T,
+    file: u8,
+    first: usize,
+    n: usize,
+) -> Result<(), Fault>
+    ensures value { λ r. ⌜ r ≡ named file (copyAnswer (S·SegmentStore .row (now (from .entry))) (T·SegmentStore .row (now (to .entry))) first n) ⌝ }
+    ensures after { λ _. ⌜ T·SegmentStore .row (now (to .exit)) ≡ copyAfter (S·SegmentStore .row (now (from .entry))) (T·SegmentStore .row (now (to .entry))) first n ⌝ }
+    ensures wrote { λ r. ⌜ (r ≡ Ok tt → Wrote (T·SegmentStore .row (now (to .entry))) (T·SegmentStore .row (now (to .exit))) first n (span (S·SegmentStore .row (now (from .entry))) first n)) ⌝ }
+    ensures kept { λ _. ⌜ T·SegmentStore .lent (now (to .exit)) ≡ T·SegmentStore .lent (now (to .entry)) ⌝ }
+    ensures framed { λ _. ⌜ T·SegmentStore .frame (now (to .exit)) ≡ T·SegmentStore .frame (now (to .entry)) ⌝ }
+{
+    probe_span(from, file, first, n)?;
+    probe_span(to, file, first, n)?;
+    let mut segment = [0; SEGMENT];
+    for i in 0..n {
+        of_file(file, from.read(first + i, &mut segment))?;
+        of_file(file, to.write(first + i, &segment))?;
     }
     Ok(())
 }

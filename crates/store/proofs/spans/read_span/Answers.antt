@@ -23,14 +23,6 @@ add-first g c =
     let p = probe-front row (c .args .first) (c .loop-i .i) (length (c .args .buffer .now) / 512) (c .loop-i .kept .i-end) (there g (need.at·add-first g c .In-Continue-probe-span)) in
     omega (arith, next-fits row (c .args .first) (c .loop-i .i) (g .S·SegmentStore .proper s) f p)
 
-pub returns-in-Break-probe-span : need.returns-in-Break-probe-span
-returns-in-Break-probe-span g c =
-    let p = err-from-errBy (c .from-residual .result) (c .from-residual .ensures .1) in
-    let row = g .S·SegmentStore .row (c .args .store .now) in
-    let b = c .args .buffer .now in
-    let v = span-refused row (c .args .file) (c .args .first) (length b) _ (c .if-buffer-ne0 .left) (c .in-Break-probe-span .ensures tt) in
-    rw (p .1, p .2) (record { value = v; after = sym (only-refused (c .args .file) (spanAnswer row (c .args .first) (length b)) _ _ b v) })
-
 pub returns-in-Break-of-file : need.returns-in-Break-of-file
 returns-in-Break-of-file g c =
     let row = g .S·SegmentStore .row (c .args .store .now) in

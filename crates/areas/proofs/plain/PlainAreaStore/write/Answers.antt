@@ -1,0 +1,30 @@
+use mathlib.Core.Path.{_≡_, refl, sym, ap, _∙_}
+use Prim.Native.Nat.{_<_, _/_, _*_}
+use native.Mathlib.Omega.{arith}
+use borrow.Rule.Slice.PartMut.{putMid}
+use lib.ListN.{length, set}
+use Rattle.store.specs.Faults.{onlyIf}
+use Rattle.store.specs.Rows.{good, goods, writeAfter}
+use Rattle.areas.specs.PlainRows.{plainRow, plainFrame}
+use Rattle.store.proofs.Answering.{goods-kept}
+use Rattle.areas.proofs.Memory.{putMid-same}
+use Rattle.areas.proofs.PlainParts.{plain-write, plain-framed}
+use Rattle.areas.proofs.plain.PlainAreaStore.write.Needs as need
+
+pub returns : need.returns
+returns c =
+    let q = c .in-Continue-start .ensures tt in
+    let m = c .args .self .now .memory .now in
+    let i = c .args .segment in
+    let b = c .args .buffer .now in
+    let inside = q .2 .inside in
+    let h : i < length m / 512 = omega (arith, q .0, inside) in
+    let e = putMid-same _ (i * 512) _ 512 m m _ b (q .0) (omega arith) refl (c .copy-from-slice .ensures .after) in
+    let after = ap plainRow e ∙ plain-write m b i (q .1) h (q .2 .fit) ∙ sym (ap (λ a. onlyIf a (set (plainRow m) i (good b)) (plainRow m)) (q .2 .allowed)) in
+    record {
+      value = sym (q .2 .allowed);
+      after = after;
+      marks = ap goods after ∙ goods-kept (plainRow m) i b;
+      kept = refl;
+      framed = ap plainFrame e ∙ plain-framed m b i (q .1) h (q .2 .fit);
+    }

@@ -1,0 +1,34 @@
+-- The row and the frame of a chained area. Assumes nothing.
+use mathlib.Core.List.{List, _∷_}
+use Prim.Native.Nat.{ℕ}
+use denote.Ref.{now}
+use lib.ListN.{length}
+use Rattle.std.specs.Of.Vec.{vec-items}
+use Rattle.areas.specs.declared.chained.ChainedArea.{ChainedArea}
+use Rattle.areas.specs.declared.index.Chain.{Chain}
+use Rattle.store.specs.Rows.{Segment, Proper}
+use Rattle.areas.specs.ChainedRows.{fitsPool, usedPages, rowOf, chainKept, chainFrame}
+use Rattle.areas.specs.Laws.{chain-proper}
+
+-- the pages that an area made over a pool with an index uses, its row, and what of the pool no call changes
+abbrev pub poolPages : List ℕ → Chain → List ℕ
+poolPages m ch = usedPages (fitsPool m (ch .size) (ch .first) (vec-items (ch .pages))) (ch .size) (length m) (vec-items (ch .pages))
+
+abbrev pub poolRow : List ℕ → Chain → List Segment
+poolRow m ch = rowOf m (poolPages m ch)
+
+abbrev pub poolKept : List ℕ → Chain → List (List ℕ)
+poolKept m ch = chainKept m (poolPages m ch)
+
+-- the pages that an area uses
+abbrev pub usedBy : ChainedArea → List ℕ
+usedBy a = usedPages (a .fits) (now (a .chain) .size) (length (now (a .memory))) (vec-items (now (a .chain) .pages))
+
+abbrev pub chainedRow : ChainedArea → List Segment
+chainedRow a = rowOf (now (a .memory)) (usedBy a)
+
+abbrev pub chainedFrame : ChainedArea → List (List ℕ)
+chainedFrame a = chainFrame (a .fits) (now (a .chain) .size) (vec-items (now (a .chain) .pages)) (now (a .memory))
+
+pub chained-proper : (a : ChainedArea) → Proper (chainedRow a)
+chained-proper a = chain-proper (now (a .memory)) (a .fits) (now (a .chain) .size) (vec-items (now (a .chain) .pages)) (now (a .chain) .sound)

@@ -1,0 +1,4 @@
+pub mod PlainRows
+pub mod ChainedRows
+pub mod Laws
+pub mod Areas
