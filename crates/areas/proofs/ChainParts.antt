@@ -1,23 +1,21 @@
 -- Reading and writing segments that lie in pages. Assumes nothing.
-use mathlib.Core.Path.{_≡_, refl, sym, ap, subst, _∙_}
-use mathlib.Core.List.{List, [], _∷_, map}
+use mathlib.Core.Path.{_≡_, refl, sym, ap, _∙_}
+use mathlib.Core.List.{List, [], _∷_}
 use mathlib.Core.Logic.{_⊎_, inl, inr, ⊎-elim}
-use mathlib.Core.Bool.{Bool, true, false, cond, _&&_, _||_}
+use mathlib.Core.Bool.{Bool, true, cond, _&&_}
 use Prim.Native.Nat.{ℕ, zero, suc, _+_, _-_, _*_, _/_, _<_, _≤_}
 use native.Mathlib.Omega.{arith}
 use borrow.Rule.Slice.PartMut.{putMid}
 use lib.Dec.{eqb, ltb, leb}
 use lib.ListN.{length, getD, set}
-use Rattle.std.specs.Iters.{counting}
 use Rattle.std.specs.Holes.{between}
-use Rattle.std.specs.declared.result.Result.the-variants.{Ok, Err}
+use Rattle.std.specs.declared.result.Result.the-variants.{Err}
 use Rattle.std.proofs.shelf.Lists.{same-lists, length-set, getD-set-same, getD-set-other, length-map, getD-map, getD-read}
 use Rattle.std.proofs.shelf.Counted.{length-map-counting, getD-map-counting}
-use Rattle.std.proofs.shelf.Tests.{and-parts, and-from, le-leb, leb-true, cond-true, cond-false, cond-both, cases-eq, cases-lt, cases-bool, eq-eqb, ne-eqb, lt-ltb, eqb-true, both-ways}
+use Rattle.std.proofs.shelf.Tests.{and-parts, and-from, le-leb, cond-true, cond-false, cond-both, cases-eq, cases-lt, cases-bool, eq-eqb, ne-eqb, lt-ltb, eqb-true, both-ways}
 use Rattle.store.specs.declared.faults.Refusal.the-variants.{BadSegment}
 use Rattle.store.specs.Faults.{onlyIf, faultOf}
 use Rattle.store.specs.Rows.{Segment, good, bad, isGood, answer, writeAfter, bytesFrom}
-use Rattle.areas.specs.PlainRows.{Placed}
 use Rattle.areas.specs.ChainedRows.{baseOf, markOf, inPool, has, once, indexed, pageSegment, rowOf, usedPages, keptLength, keptOf, keptPages, chainKept, chainFrame, flag, PagePlaced}
 use Rattle.areas.specs.Laws.{pool-some, pool-most, page-within, once-in}
 use Rattle.store.proofs.Answering.{allowed}

@@ -2,11 +2,11 @@
 use mathlib.Core.Path.{_≡_, refl, sym, ap, _∙_}
 use mathlib.Core.List.{List, [], _∷_}
 use mathlib.Core.Logic.{⊎-elim}
-use mathlib.Core.Bool.{Bool, true, false, cond, _&&_}
+use mathlib.Core.Bool.{Bool, true, false, _&&_}
 use Prim.Native.Nat.{ℕ, _+_, _-_, _*_, _/_, _<_, _≤_}
 use native.Mathlib.Omega.{arith}
 use denote.Ref.{now}
-use lib.Dec.{eqb, ltb, leb}
+use lib.Dec.{eqb, leb}
 use lib.ListN.{length, getD, drop}
 use Rattle.std.specs.Of.Vec.{vec-items}
 use Rattle.std.proofs.shelf.Counted.{length-map-counting, getD-map-counting}
@@ -14,8 +14,7 @@ use Rattle.std.proofs.shelf.Edits.{length-between, getD-between}
 use Rattle.std.proofs.shelf.Tests.{and-left, and-right, cases-bool, cond-both}
 use Rattle.areas.specs.declared.chained.ChainedArea.{ChainedArea}
 use Rattle.areas.specs.declared.index.Chain.{Chain}
-use Rattle.areas.specs.PlainRows.{whole}
-use Rattle.areas.specs.ChainedRows.{baseOf, nextOf, markOf, inPool, pageOk, has, leadsAlong, fitsPool, usedPages, rowOf, keptLength, keptOf, keptPages, chainKept, chainFrame, flag}
+use Rattle.areas.specs.ChainedRows.{baseOf, nextOf, markOf, inPool, pageOk, has, leadsAlong, fitsPool, rowOf, keptLength, keptOf, keptPages, chainKept, flag}
 use Rattle.areas.specs.Areas.{poolPages, poolRow, poolKept, usedBy, chainedRow, chainedFrame}
 use Rattle.areas.specs.Laws.{pool-some, pool-most}
 
@@ -86,9 +85,9 @@ flag-same false false e = refl
 kept-length : (m x ps qs : List ℕ) → chainKept x qs ≡ chainKept m ps → length x ≡ length m
 kept-length m x ps qs e =
     let n : length x / 516 ≡ length m / 516 =
-      sym (length-map-counting (keptOf x qs) 0 (length x / 516)) ∙ ap (λ ks. length (drop 1 ks)) e ∙ length-map-counting (keptOf m ps) 0 (length m / 516) in
+    sym (length-map-counting (keptOf x qs) 0 (length x / 516)) ∙ ap (λ ks. length (drop 1 ks)) e ∙ length-map-counting (keptOf m ps) 0 (length m / 516) in
     let r : length x - length x / 516 * 516 ≡ length m - length m / 516 * 516 =
-      sym (length-between x (length x / 516 * 516) (length x) (omega arith)) ∙ ap (λ ks. length (getD ks 0 [])) e ∙ length-between m (length m / 516 * 516) (length m) (omega arith) in
+    sym (length-between x (length x / 516 * 516) (length x) (omega arith)) ∙ ap (λ ks. length (getD ks 0 [])) e ∙ length-between m (length m / 516 * 516) (length m) (omega arith) in
     omega arith
 
 module _ (m : List ℕ) (ch : Chain) (a : ChainedArea) (holds : now (a .memory) ≡ m) (index : now (a .chain) ≡ ch) (fits : a .fits ≡ fitsPool m (ch .size) (ch .first) (vec-items (ch .pages))) where

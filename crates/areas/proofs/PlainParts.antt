@@ -1,19 +1,18 @@
 -- Reading and writing segments that lie side by side. Assumes nothing.
-use mathlib.Core.Path.{_≡_, refl, sym, ap, _∙_}
-use mathlib.Core.List.{List, [], _∷_, map}
+use mathlib.Core.Path.{_≡_, sym, ap, _∙_}
+use mathlib.Core.List.{List, [], _∷_}
 use mathlib.Core.Logic.{inl, inr, ⊎-elim}
-use mathlib.Core.Bool.{true, false}
+use mathlib.Core.Bool.{true}
 use Prim.Native.Nat.{ℕ, _+_, _*_, _/_, _<_, _≤_}
 use native.Mathlib.Omega.{arith}
 use borrow.Rule.Slice.PartMut.{putMid}
-use lib.Dec.{eqb, ltb}
 use lib.ListN.{length, getD, set}
-use Rattle.std.specs.Iters.{counting}
 use Rattle.std.proofs.shelf.Lists.{same-lists, length-set, getD-set-same, getD-set-other}
 use Rattle.std.proofs.shelf.Counted.{length-map-counting, getD-map-counting}
-use Rattle.std.proofs.shelf.Tests.{cond-true, cond-false, cases-eq, cases-lt, eq-eqb, lt-ltb}
+use Rattle.std.proofs.shelf.Tests.{cond-true, cases-eq, cases-lt}
 use Rattle.std.specs.declared.result.Result.the-variants.{Ok}
-use Rattle.store.specs.Rows.{Segment, good, bad, answer, bytesFrom}
+use Rattle.store.specs.Faults.{onlyIf}
+use Rattle.store.specs.Rows.{Segment, good, bad, answer, writeAfter, bytesFrom}
 use Rattle.areas.specs.PlainRows.{whole, plainSegment, plainRow, plainFrame}
 use Rattle.areas.proofs.Memory.{length-putMid, apart, written-here}
 use Rattle.store.proofs.Answering.{allowed}
@@ -32,7 +31,7 @@ module _ (m ys : List ℕ) (k : ℕ) (h : whole 512 (length m) ≡ true) (l : k 
   after-long : length (putMid (k * 512) 512 m ys) ≡ length m
   after-long = length-putMid (k * 512) 512 m ys (omega arith) n
 
-  pub plain-write : plainRow (putMid (k * 512) 512 m ys) ≡ set (plainRow m) k (good ys)
+  plain-write : plainRow (putMid (k * 512) 512 m ys) ≡ set (plainRow m) k (good ys)
   plain-write =
       let p = putMid (k * 512) 512 m ys in
       let f : k * 512 + 512 ≤ length m = omega arith in
@@ -49,6 +48,9 @@ module _ (m ys : List ℕ) (k : ℕ) (h : whole 512 (length m) ≡ true) (l : k 
       (λ other. ap good (apart (k * 512) 512 (j * 512) 512 m ys f (omega arith) n (⊎-elim (λ b. inr (omega arith)) (λ b. inl (omega arith)) (cases-lt j k)))
       ∙ sym (getD-set-other (plainRow m) k j (good ys) d other ∙ plain-at m j d h j<))
       (cases-eq j k))
+
+  pub plain-after : plainRow (putMid (k * 512) 512 m ys) ≡ writeAfter (plainRow m) k ys
+  plain-after = plain-write ∙ sym (ap (λ a. onlyIf a (set (plainRow m) k (good ys)) (plainRow m)) (plain-allowed m k (length ys) h l n))
 
   pub plain-framed : plainFrame (putMid (k * 512) 512 m ys) ≡ plainFrame m
   plain-framed =

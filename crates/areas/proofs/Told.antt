@@ -1,9 +1,9 @@
 -- A row and what is kept beside it tell the whole memory. Assumes nothing.
 use mathlib.Core.Path.{_≡_, refl, sym, ap, _∙_}
 use mathlib.Core.List.{List, [], _∷_}
-use mathlib.Core.Logic.{_⊎_, inl, inr, ⊎-elim}
-use mathlib.Core.Bool.{Bool, true, false, cond, _&&_, _||_}
-use Prim.Native.Nat.{ℕ, zero, suc, _+_, _-_, _*_, _/_, _%_, _<_, _≤_}
+use mathlib.Core.Logic.{_⊎_, ⊎-elim}
+use mathlib.Core.Bool.{true, false, cond, _&&_}
+use Prim.Native.Nat.{ℕ, suc, _+_, _-_, _*_, _/_, _%_, _<_, _≤_}
 use native.Mathlib.Omega.{arith}
 use lib.Dec.{eqb, ltb, leb}
 use lib.ListN.{length, getD, drop}
@@ -11,7 +11,7 @@ use Rattle.std.specs.Holes.{between}
 use Rattle.std.proofs.shelf.Lists.{same-lists}
 use Rattle.std.proofs.shelf.Edits.{getD-between}
 use Rattle.std.proofs.shelf.Tests.{and-parts, and-from, or-cases, both-ways, cond-true, cond-false, cases-bool, cases-lt, eqb-true, lt-ltb, le-leb}
-use Rattle.store.specs.Rows.{Segment, good, bad, bytesFrom}
+use Rattle.store.specs.Rows.{good, bad, bytesFrom}
 use Rattle.areas.specs.PlainRows.{whole, plainRow, plainFrame}
 use Rattle.areas.specs.ChainedRows.{baseOf, markOf, inPool, has, pageSegment, rowOf, keptLength, keptPages, chainKept}
 use Rattle.areas.specs.declared.index.Chain.{Chain}
@@ -28,7 +28,7 @@ byte-from m x a j d e l =
 plain-byte : (m x : List ℕ) (t d : ℕ) → whole 512 (length m) ≡ true → length x ≡ length m → plainRow x ≡ plainRow m → t < length m → t / 512 < length m / 512 → getD x t d ≡ getD m t d
 plain-byte m x t d w l r lt k =
     let s : good (bytesFrom x (t / 512 * 512)) ≡ good (bytesFrom m (t / 512 * 512)) =
-      sym (plain-at x (t / 512) bad (ap (whole 512) l ∙ w) (omega arith)) ∙ ap (λ row. getD row (t / 512) bad) r ∙ plain-at m (t / 512) bad w k in
+    sym (plain-at x (t / 512) bad (ap (whole 512) l ∙ w) (omega arith)) ∙ ap (λ row. getD row (t / 512) bad) r ∙ plain-at m (t / 512) bad w k in
     let e : bytesFrom x (t / 512 * 512) ≡ bytesFrom m (t / 512 * 512) = cc in
     let z : t / 512 * 512 + t % 512 ≡ t = omega arith in
     ap (λ i. getD x i d) (sym z) ∙ byte-from m x (t / 512 * 512) (t % 512) d e (omega arith) ∙ ap (λ i. getD m i d) z
@@ -71,7 +71,7 @@ module _ (m x ps : List ℕ) (l : length x ≡ length m) (r : rowOf x ps ≡ row
           let i = has-place (k + 1) ps (a .0) in
           let z = eqb-true (markOf m (k + 1)) 0 (a .1) in
           let segment : pageSegment x (k + 1) ≡ pageSegment m (k + 1) =
-            ap (pageSegment x) (sym (i .1 .1)) ∙ sym (row-at x ps (i .0) bad (i .1 .0)) ∙ ap (λ row. getD row (i .0) bad) r ∙ row-at m ps (i .0) bad (i .1 .0) ∙ ap (pageSegment m) (i .1 .1) in
+          ap (pageSegment x) (sym (i .1 .1)) ∙ sym (row-at x ps (i .0) bad (i .1 .0)) ∙ ap (λ row. getD row (i .0) bad) r ∙ row-at m ps (i .0) bad (i .1 .0) ∙ ap (pageSegment m) (i .1 .1) in
           let both : good (bytesFrom x (baseOf (k + 1) + 4)) ≡ good (bytesFrom m (baseOf (k + 1) + 4)) = sym (page-good x (k + 1) (mark ∙ z)) ∙ segment ∙ page-good m (k + 1) z in
           let bytes : bytesFrom x (baseOf (k + 1) + 4) ≡ bytesFrom m (baseOf (k + 1) + 4) = cc in
           let at : baseOf (k + 1) + 4 + (j - 4) ≡ k * 516 + j = omega arith in

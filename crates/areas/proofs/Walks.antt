@@ -1,11 +1,11 @@
 -- Chains of pages: their steps, and that no page stands twice in one that ends. Assumes nothing.
 use mathlib.Core.Path.{_≡_, refl, sym, ap, subst, _∙_}
 use mathlib.Core.List.{List, [], _∷_, _++_}
-use mathlib.Core.Logic.{_⊎_, inl, inr, ⊎-elim}
-use mathlib.Core.Bool.{Bool, true, false, cond, not, _&&_, _||_}
-use Prim.Native.Nat.{ℕ, zero, suc, _+_, _-_, _*_, _/_, _<_, _≤_}
+use mathlib.Core.Logic.{_⊎_, ⊎-elim}
+use mathlib.Core.Bool.{Bool, true, false, cond, not, _&&_}
+use Prim.Native.Nat.{ℕ, zero, suc, _+_, _-_, _/_, _<_, _≤_}
 use native.Mathlib.Omega.{arith}
-use lib.Dec.{eqb, ltb, leb}
+use lib.Dec.{eqb, leb}
 use lib.ListN.{length, getD, drop}
 use Rattle.std.specs.Options.{isSome, mapped, valueOr}
 use Rattle.std.specs.declared.option.Option.{Option}
@@ -13,13 +13,28 @@ use Rattle.std.specs.declared.option.Option.the-variants.{Some, None}
 use Rattle.std.proofs.shelf.Lists.{append-assoc, drop-more, drop-all}
 use Rattle.std.proofs.shelf.Tests.{and-parts, and-from, and-left, and-right, cond-true, cond-false, cases-bool, eq-eqb, ne-eqb, eqb-true, eqb-false, or-cases, or-left, or-right, not-true, both-ways}
 use Rattle.areas.specs.PlainRows.{whole}
-use Rattle.areas.specs.ChainedRows.{baseOf, nextOf, markOf, inPool, pageOk, Ends, last, more, walk, pagesOf, has, once, leadsAlong}
+use Rattle.areas.specs.ChainedRows.{baseOf, nextOf, markOf, inPool, pageOk, stepFrom, Ends, last, more, walk, pagesOf, has, once, leadsAlong}
 
 -- what `pageOk` tells
 pub page-in : (m : List ℕ) (p : ℕ) → pageOk m p ≡ true → inPool (length m / 516) p ≡ true
 page-in m p h =
     and-parts (inPool (length m / 516) p) (leb (markOf m p) 1)
     (and-parts (inPool (length m / 516) p && leb (markOf m p) 1) (eqb (getD m (baseOf p + 3) 0) 0) h .0) .0
+
+-- what a step tells
+pub step-on : (m : List ℕ) (p q : ℕ) → Some q ≡ stepFrom m p → (pageOk m p ≡ true) × (q ≡ nextOf m p)
+step-on m p q e = by (pageOk m p) e
+  where
+    by : (b : Bool) → Some q ≡ cond b (Some (nextOf m p)) None → (b ≡ true) × (q ≡ nextOf m p)
+    by true h = (refl, (cc))
+    by false h = absurd (let z : _≡_ {A = ℕ} 0 1 = cc in omega arith)
+
+pub step-off : (m : List ℕ) (p : ℕ) → None ≡ stepFrom m p → pageOk m p ≡ false
+step-off m p e = by (pageOk m p) e
+  where
+    by : (b : Bool) → None ≡ cond b (Some (nextOf m p)) None → b ≡ false
+    by true h = absurd (let z : _≡_ {A = ℕ} 0 1 = cc in omega arith)
+    by false h = refl
 
 -- the steps of a walk
 pub walk-bad : (m : List ℕ) (n p : ℕ) → pageOk m p ≡ false → walk m n p ≡ None
@@ -109,6 +124,13 @@ pages-once m first = once-or m first (whole 516 (length m)) (walk m (length m / 
 
 pub pages-at : (m : List ℕ) (first : ℕ) (o : Option (List ℕ)) → whole 516 (length m) ≡ true → walk m (length m / 516) first ≡ o → pagesOf m first ≡ valueOr o []
 pages-at m first o h e = cond-true (whole 516 (length m)) _ _ h ∙ ap (λ x. valueOr x []) e
+
+-- the index made so far, at its last page
+pub pages-last : (m : List ℕ) (first i p : ℕ) (xs ys : List ℕ) → whole 516 (length m) ≡ true → i < length m / 516 → pageOk m p ≡ true → nextOf m p ≡ 0 → ys ≡ xs ++ p ∷ []
+    → mapped (λ ps. xs ++ ps) (walk m (length m / 516 - i) p) ≡ walk m (length m / 516) first → ys ≡ pagesOf m first
+pages-last m first i p xs ys w l h e a inv =
+    let o : walk m (length m / 516) first ≡ Some (xs ++ p ∷ []) = sym inv ∙ ap (mapped (λ ps. xs ++ ps)) (walk-last m (length m / 516) i p l h e) in
+    a ∙ sym (pages-at m first (Some (xs ++ p ∷ [])) w o)
 
 pub chain-step : (m : List ℕ) (n i p q : ℕ) (xs ys : List ℕ) (o : Option (List ℕ)) → i < n → pageOk m p ≡ true → q ≡ nextOf m p → (q ≡ 0 → ⊥) → ys ≡ xs ++ p ∷ []
     → mapped (λ ps. xs ++ ps) (walk m (n - i) p) ≡ o → mapped (λ ps. ys ++ ps) (walk m (n - (i + 1)) q) ≡ o

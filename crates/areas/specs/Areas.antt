@@ -1,5 +1,5 @@
 -- The row and the frame of a chained area. Assumes nothing.
-use mathlib.Core.List.{List, _∷_}
+use mathlib.Core.List.{List}
 use Prim.Native.Nat.{ℕ}
 use denote.Ref.{now}
 use lib.ListN.{length}

@@ -11,9 +11,9 @@ use Rattle.std.specs.Holes.{between}
 use Rattle.std.specs.Options.{isSome, mapped, valueOr}
 use Rattle.std.specs.declared.option.Option.{Option}
 use Rattle.std.specs.declared.option.Option.the-variants.{Some, None}
-use Rattle.std.specs.declared.result.Result.the-variants.{Ok, Err}
+use Rattle.std.specs.declared.result.Result.the-variants.{Ok}
 use Rattle.store.specs.declared.faults.Refusal.the-variants.{UnfitMemory, BrokenChain}
-use Rattle.store.specs.Faults.{Answer, asks, firstNo, faultOf}
+use Rattle.store.specs.Faults.{Answer, asks, firstNo}
 use Rattle.store.specs.Rows.{Segment, good, bad, bytesFrom}
 use Rattle.areas.specs.PlainRows.{whole, Placed}
 
@@ -36,6 +36,10 @@ inPool n p = ltb 0 p && leb p n
 -- page p is in the pool, is marked good or bad, and has a zero byte after the mark
 abbrev pub pageOk : List ℕ → ℕ → Bool
 pageOk m p = inPool (length m / 516) p && leb (markOf m p) 1 && eqb (getD m (baseOf p + 3) 0) 0
+
+-- the step from a page of a chain to the next
+abbrev pub stepFrom : List ℕ → ℕ → Option ℕ
+stepFrom m p = cond (pageOk m p) (Some (nextOf m p)) None
 
 -- the chain from page p on is ps: each page is as it should be and names the one after it, the last names 0
 pub data Ends (m : List ℕ) : ℕ → List ℕ → Type 0 where

@@ -2,7 +2,6 @@
 ghost use denote.Ref.{now, name};
 ghost use mathlib.Core.List.{[], _∷_};
 ghost use mathlib.Core.Path.{_≡_};
-ghost use Prim.Native.Nat.{ℕ};
 ghost use lib.ListN.{length};
 ghost use Rattle.std.specs.Of.Vec.{vec-items};
 ghost use Rattle.std.specs.Results.{Cases};
@@ -10,14 +9,16 @@ ghost use Rattle.std.specs.declared.result.Result.the-variants.{Err};
 ghost use Rattle.store.specs.Rows.{answer};
 ghost use Rattle.areas.specs.ChainedRows.{chainLook, fitsPool, Looked, Made, PagePlaced};
 ghost use Rattle.areas.specs.Areas.{usedBy, chainedRow, chainedFrame, chained-proper};
+use super::index::Chain;
+use super::index::HEAD;
+use super::index::MARK;
+use super::index::PAGE;
+use super::index::ends;
+use super::plain::is_whole;
 use store::SEGMENT;
 use store::SegmentStore;
 use store::faults::Fault;
 use store::faults::Refusal;
-use super::index::Chain;
-use super::index::PAGE;
-use super::index::ends;
-use super::plain::is_whole;
 
 /// A store over the pages of a chain, in a pool that is lent to it. Made over a pool that
 /// `look` refuses, or with the index of another chain, it is one bad segment.
@@ -84,10 +85,10 @@ impl<'a, 'c> ChainedArea<'a, 'c> {
             return Err(Refusal::BadSegment(segment).fault());
         }
         let base = (self.chain.pages[segment] as usize - 1) * PAGE;
-        if self.memory[base + 2] != 0 {
+        if self.memory[base + MARK] != 0 {
             return Err(Refusal::BadSegment(segment).fault());
         }
-        Ok(base + 4)
+        Ok(base + HEAD)
     }
 }
 

@@ -4,18 +4,27 @@
 //! (0 good, 1 bad), a zero byte and a segment. Pages are numbered from 1; 0 ends a chain.
 ghost use mathlib.Core.Bool.{true};
 ghost use mathlib.Core.Path.{_≡_};
-ghost use Prim.Native.Nat.{ℕ, _/_};
+ghost use Prim.Native.Nat.{_/_};
 ghost use lib.ListN.{length};
 ghost use Rattle.std.specs.Options.{isSome};
 ghost use Rattle.std.specs.Of.Vec.{vec-items};
 ghost use Rattle.std.specs.Vec.{made};
-ghost use Rattle.areas.specs.ChainedRows.{inPool, pageOk, walk, nextOf, pagesOf, leadsAlong, fitsPool, indexed};
+ghost use Rattle.areas.specs.ChainedRows.{stepFrom, walk, pagesOf, leadsAlong, fitsPool, indexed};
 use super::plain::is_whole;
 use std::alloc::AllocError;
 use std::alloc::Global;
 
 /// The bytes of a page.
 pub const PAGE: usize = 516;
+
+/// The place of a page's mark.
+pub(crate) const MARK: usize = 2;
+
+/// The place of its zero byte.
+const ZERO: usize = 3;
+
+/// The place of its segment.
+pub(crate) const HEAD: usize = 4;
 
 /// The index of a chain: its pages in their order, none where `ChainedArea::look` refuses it.
 #[derive(Drop)]
@@ -26,24 +35,19 @@ pub struct Chain {
     ghost sound: { indexed size (vec-items pages) ≡ true },
 }
 
-/// Whether the page is in the pool, with a mark and a zero byte as they should be.
-fn page_ok(memory: &[u8], page: u16) -> bool
-    ensures { λ r. ⌜ r ≡ pageOk (now (memory .entry)) page ⌝ }
+/// The page after a page, 0 after the last; none where the page is not in the pool, or its
+/// mark or zero byte is not as it should be.
+fn next_page(memory: &[u8], page: u16) -> Option<u16>
+    ensures { λ r. ⌜ r ≡ stepFrom (now (memory .entry)) page ⌝ }
 {
     if page == 0 || page as usize > memory.len() / PAGE {
-        return false;
+        return None;
     }
     let base = (page as usize - 1) * PAGE;
-    memory[base + 2] <= 1 && memory[base + 3] == 0
-}
-
-/// The page after a page, 0 after the last.
-fn next_page(memory: &[u8], page: u16) -> u16
-    requires { ⌜ inPool (length (now memory) / 516) page ≡ true ⌝ }
-    ensures { λ r. ⌜ r ≡ nextOf (now (memory .entry)) page ⌝ }
-{
-    let base = (page as usize - 1) * PAGE;
-    u16::from_be_bytes([memory[base], memory[base + 1]])
+    if memory[base + MARK] > 1 || memory[base + ZERO] != 0 {
+        return None;
+    }
+    Some(u16::from_be_bytes([memory[base], memory[base + 1]]))
 }
 
 /// Whether the chain from a page on ends, within as many pages as there are.
@@ -52,13 +56,13 @@ pub(crate) fn ends(memory: &[u8], first: u16) -> bool
 {
     let mut page = first;
     for _i in 0..memory.len() / PAGE {
-        if !page_ok(memory, page) {
+        let Some(next) = next_page(memory, page) else {
             return false;
-        }
-        page = next_page(memory, page);
-        if page == 0 {
+        };
+        if next == 0 {
             return true;
         }
+        page = next;
     }
     false
 }
@@ -72,14 +76,14 @@ fn pages_of(heap: Global, memory: &[u8], first: u16) -> Result<Vec<u16>, AllocEr
     }
     let mut page = first;
     for _i in 0..memory.len() / PAGE {
-        if !page_ok(memory, page) {
+        let Some(next) = next_page(memory, page) else {
             return Ok(Vec::new(heap));
-        }
+        };
         pages.push(page)?;
-        page = next_page(memory, page);
-        if page == 0 {
+        if next == 0 {
             return Ok(pages);
         }
+        page = next;
     }
     Ok(Vec::new(heap))
 }
@@ -90,10 +94,13 @@ fn leads_along(memory: &[u8], first: u16, pages: &[u16]) -> bool
 {
     let mut page = first;
     for listed in pages {
-        if *listed != page || !page_ok(memory, page) {
+        if *listed != page {
             return false;
         }
-        page = next_page(memory, page);
+        let Some(next) = next_page(memory, page) else {
+            return false;
+        };
+        page = next;
     }
     page == 0
 }

@@ -1,6 +1,5 @@
 //! Areas made over the caller's memory for one call, and what that memory holds afterwards.
 ghost use mathlib.Core.Path.{_≡_};
-ghost use Prim.Native.Nat.{ℕ};
 ghost use lib.ListN.{length};
 ghost use Rattle.std.specs.declared.result.Result.the-variants.{Err};
 ghost use Rattle.store.specs.Faults.{named};

@@ -1,24 +1,24 @@
 -- Probing, reading and writing several segments, a segment at a time. Assumes nothing.
 use mathlib.Core.Path.{_≡_, refl, sym, ap, ap₂, subst, _∙_}
-use mathlib.Core.Bool.{Bool, true, false, cond}
-use mathlib.Core.List.{List, [], _∷_, _++_, map}
+use mathlib.Core.Bool.{true}
+use mathlib.Core.List.{List, _++_}
 use mathlib.Core.Logic.{_⊎_, inl, inr, ⊎-elim}
 use Prim.Native.Nat.{ℕ, zero, suc, _+_, _-_, _*_, _/_, _%_, _^_, _≤_, _<_}
 use native.Mathlib.Numerals.{add-one}
 use native.Mathlib.Omega.{arith}
 use lib.Seq.{take-add, take-append-le, drop-append-le, drop-at}
 use borrow.Rule.Slice.PartMut.{putMid}
-use lib.Dec.{eqb, ltb}
+use lib.Dec.{eqb}
 use lib.ListN.{length, getD, set, take, drop, length-append, length-drop}
 use Rattle.std.specs.declared.result.Result.the-variants.{Ok, Err}
-use Rattle.std.proofs.shelf.Lists.{length-set, length-map, getD-map, getD-set-same, getD-set-other, take-all, take-more}
-use Rattle.std.proofs.shelf.Parts.{take-putMid, between-is}
-use Rattle.std.proofs.shelf.Tests.{cases-lt, cases-eq, cond-true, eq-eqb}
+use Rattle.std.proofs.shelf.Lists.{getD-set-same, getD-set-other, take-all}
+use Rattle.std.proofs.shelf.Parts.{take-putMid}
+use Rattle.std.proofs.shelf.Tests.{cases-lt, cond-true, eq-eqb}
 use Rattle.store.specs.declared.faults.Fault.{Fault}
-use Rattle.store.specs.Faults.{Answer, andThen, onlyIf, inFile, named}
+use Rattle.store.specs.Faults.{Answer, andThen, onlyIf, named}
 use Rattle.store.specs.Rows.{Segment, good, bad, isGood, bytesOf, goods, Proper, answer, readAfter, writeAfter, bytesFrom}
 use Rattle.store.specs.Spans.{span, probe, spanAnswer, put, copyAnswer, Wrote}
-use Rattle.store.proofs.Answering.{refused-not-done, Allowed, allowed-means, goods-set, answer-goods}
+use Rattle.store.proofs.Answering.{refused-not-done, allowed-means, goods-set, answer-goods}
 
 named-done : (file : ℕ) (a : Answer) (u : Unit {0}) → Ok u ≡ named file a → a ≡ Ok tt
 named-done file (Ok u) v e = refl
@@ -91,9 +91,6 @@ span-asked row first size h = cond-true (eqb (size % 512) 0) _ _ (eq-eqb (size %
 
 pub span-done : (row : List Segment) (first size : ℕ) → size % 512 ≡ 0 → probe row first (size / 512) ≡ Ok tt → spanAnswer row first size ≡ Ok tt
 span-done row first size h e = span-asked row first size h ∙ e
-
-pub span-refused : (row : List Segment) (file first size : ℕ) (f : Fault) → size % 512 ≡ 0 → Err f ≡ named file (probe row first (size / 512)) → Err f ≡ named file (spanAnswer row first size)
-span-refused row file first size f h e = e ∙ ap (named file) (sym (span-asked row first size h))
 
 pub only-done : {X : Type 0} (a : Answer) (new old : X) → a ≡ Ok tt → onlyIf a new old ≡ new
 only-done a new old e = ap (λ b. onlyIf b new old) e
@@ -173,7 +170,7 @@ pub put-more : (row row′ row″ : List Segment) (first n i : ℕ) (bytes part 
 put-more row row′ row″ first n i bytes part e l h q s w =
     let g = put-goods row first i bytes (probe-front row first i n (omega arith) e) in
     let a : answer row′ (first + i) (length part) ≡ Ok tt =
-      ap (λ r. answer r (first + i) (length part)) h ∙ answer-goods row (put row first i bytes) (first + i) (length part) g ∙ ap (answer row (first + i)) s ∙ probed row first n i e l in
+    ap (λ r. answer r (first + i) (length part)) h ∙ answer-goods row (put row first i bytes) (first + i) (length part) g ∙ ap (answer row (first + i)) s ∙ probed row first n i e l in
     let step : row″ ≡ put row first (suc i) bytes = w ∙ only-done (answer row′ (first + i) (length part)) _ row′ a ∙ ap₂ (λ r x. set r (first + i) (good x)) h q in
     rw add-one step
 
@@ -213,11 +210,6 @@ span-at row first (suc n) i p e l =
     ap (λ j. bytesFrom (span row first n ++ x) (j * 512)) z ∙ bytes-right (span row first n) x (n * 512) m (full-segment row (first + n) 512 p (q .1)) ∙ ap (λ j. bytesOf (getD row (first + j) bad)) (sym z))
     (cases-lt i n)
 
--- the ways that a copy is answered
-pub copy-refused-first : (from to : List Segment) (file first n : ℕ) (f : Fault) → Err f ≡ named file (probe from first n) → Err f ≡ named file (copyAnswer from to first n)
-copy-refused-first from to file first n f e =
-    let r = named-refused file (probe from first n) f e in
-    e ∙ ap (named file) (r .1 ∙ sym (ap (λ a. andThen a (probe to first n)) (r .1)))
-
+-- a copy asks the row that is read first
 pub copy-asked : (from to : List Segment) (first n : ℕ) → probe from first n ≡ Ok tt → copyAnswer from to first n ≡ probe to first n
 copy-asked from to first n e = ap (λ a. andThen a (probe to first n)) e

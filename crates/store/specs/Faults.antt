@@ -1,7 +1,9 @@
 -- Why a store refuses, and the fault that says so. Assumes nothing.
-use mathlib.Core.Bool.{Bool, true, false, cond}
-use mathlib.Core.List.{List, [], _∷_}
+use mathlib.Core.Bool.{Bool, cond}
+use mathlib.Core.List.{List, [], _∷_, _++_}
 use Prim.Native.Nat.{ℕ}
+use lib.Chars.{codes}
+use Rattle.std.specs.Written.{decimal}
 use Rattle.std.specs.declared.result.Result.{Result}
 use Rattle.std.specs.declared.result.Result.the-variants.{Ok, Err}
 use Rattle.store.specs.declared.faults.Fault.{Fault}
@@ -62,3 +64,8 @@ inFile n f = record { number = f .number; layer = f .layer; file = n; segment = 
 abbrev pub named : ℕ → Answer → Answer
 named n (Ok u) = Ok u
 named n (Err f) = Err (inFile n f)
+
+-- how a fault is written
+abbrev pub textOf : Fault → List ℕ
+textOf f =
+    codes "refused " ++ (decimal (f .number) ++ (codes " layer " ++ (decimal (f .layer) ++ (codes " file " ++ (decimal (f .file) ++ (codes " segment " ++ decimal (f .segment)))))))

@@ -1,6 +1,7 @@
 //! Refusals: what a store says no with, and how that is handed up.
 ghost use mathlib.Core.Path.{_≡_};
-ghost use Rattle.store.specs.Faults.{faultOf, inFile, named};
+ghost use Rattle.std.specs.declared.option.Option.the-variants.{Some};
+ghost use Rattle.store.specs.Faults.{faultOf, inFile, named, textOf};
 use std::fmt;
 
 /// No file, in a fault.
@@ -26,7 +27,7 @@ pub struct Fault {
 }
 
 /// The refusals of a store.
-#[derive(Clone, Copy, PartialEq, Eq, Debug)]
+#[derive(Clone, Copy)]
 pub enum Refusal {
     /// 11: the buffer is not 512 bytes, or for a span no whole number of segments.
     WrongBuffer,
@@ -80,11 +81,16 @@ pub fn of_file(file: u8, outcome: Result<(), Fault>) -> Result<(), Fault>
 }
 
 pub impl fmt::Display for Fault as FaultDisplay {
+    ghost shown = { λ f. Some (textOf f) };
+
     fn fmt<W: fmt::Write>(&self, f: &mut fmt::Formatter<W>) -> fmt::Result {
         let number = self.number;
         let layer = self.layer;
         let file = self.file;
         let segment = self.segment;
-        write!(f, "refused {number} layer {layer} file {file} segment {segment}")
+        write!(
+            f,
+            "refused {number} layer {layer} file {file} segment {segment}"
+        )
     }
 }

@@ -1,7 +1,6 @@
 //! Segment stores: a numbered row of segments, each good with 512 bytes or bad, behind three
 //! calls. `spans` has what files do with them: several segments, one behind another.
 ghost use base.Fml.{GName};
-ghost use mathlib.Core.Bool.{Bool};
 ghost use mathlib.Core.List.{List};
 ghost use mathlib.Core.Path.{_≡_};
 ghost use Prim.Native.Nat.{ℕ};

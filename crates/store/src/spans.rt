@@ -3,11 +3,10 @@
 //! A file reads and writes its store by these calls alone. A refusal of the store comes up
 //! whole, with the file's number added, and leaves buffer and store as they were.
 ghost use mathlib.Core.Path.{_≡_};
-ghost use Prim.Native.Nat.{ℕ, _/_};
+ghost use Prim.Native.Nat.{_/_};
 ghost use lib.ListN.{length};
 ghost use Rattle.std.specs.declared.result.Result.the-variants.{Ok};
 ghost use Rattle.store.specs.Faults.{named};
-ghost use Rattle.store.specs.Rows.{goods};
 ghost use Rattle.store.specs.Spans.{probe, span, spanAnswer, readSpanAfter, writeSpanAfter, copyAnswer, copyAfter, Wrote};
 use super::SEGMENT;
 use super::SegmentStore;
@@ -16,12 +15,7 @@ use super::faults::Refusal;
 use super::faults::of_file;
 
 /// Whether the `n` segments from `first` on are there and good. Only reading can tell.
-pub fn probe_span<S: SegmentStore>(
-    store: &S,
-    file: u8,
-    first: usize,
-    n: usize,
-) -> Result<(), Fault>
+pub fn probe_span<S: SegmentStore>(store: &S, file: u8, first: usize, n: usize) -> Result<(), Fault>
     ensures { λ r. ⌜ r ≡ named file (probe (S·SegmentStore .row (now (store .entry))) first n) ⌝ }
 {
     let mut segment = [0; SEGMENT];
@@ -48,7 +42,10 @@ pub fn read_span<S: SegmentStore>(
     probe_span(store, file, first, n)?;
     for i in 0..n {
         let start = i * SEGMENT;
-        of_file(file, store.read(first + i, &mut buffer[start..start + SEGMENT]))?;
+        of_file(
+            file,
+            store.read(first + i, &mut buffer[start..start + SEGMENT]),
+        )?;
     }
     Ok(())
 }
@@ -73,7 +70,10 @@ pub fn write_span<S: SegmentStore>(
     probe_span(store, file, first, n)?;
     for i in 0..n {
         let start = i * SEGMENT;
-        of_file(file, store.write(first + i, &buffer[start..start + SEGMENT]))?;
+        of_file(
+            file,
+            store.write(first + i, &buffer[start..start + SEGMENT]),
+        )?;
     }
     Ok(())
 }

@@ -22,12 +22,12 @@ returns c =
     let b = c .args .buffer .now in
     let r = row-before m ch (c .new-area .result) (n .holds) (n .index) (n .fits) in
     let after : poolRow (a′ .memory .now) ch ≡ writeSpanAfter (poolRow m ch) first b =
-      row-after m ch (c .new-area .result) (n .holds) (n .index) (n .fits) a′ (w .framed) ∙ w .after ∙ ap (λ row. writeSpanAfter row first b) r in
+    row-after m ch (c .new-area .result) (n .holds) (n .index) (n .fits) a′ (w .framed) ∙ w .after ∙ ap (λ row. writeSpanAfter row first b) r in
     let kept : poolKept (a′ .memory .now) ch ≡ poolKept m ch = kept-after m ch (c .new-area .result) (n .holds) (n .index) (n .fits) a′ (w .framed) in
     let value = w .value ∙ ap (λ row. named (c .args .file) (spanAnswer row first (length b))) r in
     let told : (f : Fault) → c .write-span .result ≡ Err f → a′ .memory .now ≡ m = λ f d.
-      pool-unchanged m (a′ .memory .now) ch (same-length m ch (c .new-area .result) (n .holds) (n .index) (n .fits) a′ (w .framed)) (pool-same m ch (c .new-area .result) (n .holds) (n .index) (n .fits) a′ (w .framed))
-      (after ∙ only-refused (c .args .file) (spanAnswer (poolRow m ch) first (length b)) f _ (poolRow m ch) (sym d ∙ value)) kept in
+    pool-unchanged m (a′ .memory .now) ch (same-length m ch (c .new-area .result) (n .holds) (n .index) (n .fits) a′ (w .framed)) (pool-same m ch (c .new-area .result) (n .holds) (n .index) (n .fits) a′ (w .framed))
+    (after ∙ only-refused (c .args .file) (spanAnswer (poolRow m ch) first (length b)) f _ (poolRow m ch) (sym d ∙ value)) kept in
     record {
       value = value;
       after = search needs;

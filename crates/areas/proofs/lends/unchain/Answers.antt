@@ -26,7 +26,7 @@ returns c =
     let value = w .value ∙ ap₂ (λ x y. named (c .args .file) (copyAnswer x y 0 (c .args .n))) r h in
     let long : length m′ ≡ length m = search needs in
     let told : (f : Fault) → c .copy-span .result ≡ Err f → m′ ≡ m = λ f d.
-      plain-told m m′ long (after ∙ only-refused (c .args .file) (copyAnswer from (plainRow m) 0 (c .args .n)) f _ (plainRow m) (sym d ∙ value)) framed in
+    plain-told m m′ long (after ∙ only-refused (c .args .file) (copyAnswer from (plainRow m) 0 (c .args .n)) f _ (plainRow m) (sym d ∙ value)) framed in
     record {
       value = value;
       after = search needs;

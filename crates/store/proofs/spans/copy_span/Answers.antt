@@ -1,6 +1,6 @@
-use mathlib.Core.Path.{_≡_, refl, sym, ap, subst, _∙_}
+use mathlib.Core.Path.{_≡_, sym, ap, subst, _∙_}
 use mathlib.Core.List.{List}
-use Prim.Native.Nat.{_+_, _*_, _^_, _<_, _≤_}
+use Prim.Native.Nat.{_+_, _^_, _<_}
 use native.Mathlib.Omega.{arith}
 use lib.ListN.{length, getD}
 use Rattle.std.specs.declared.result.Result.the-variants.{Ok}
@@ -52,12 +52,13 @@ loop-i-again g c =
     let t = to-there g (need.at·loop-i-again g c .In-Continue-probe-span-2) in
     let n : length (c .read .last .buffer) ≡ 512 = c .read .kept .buffer ∙ c .loop-i .inv .0 in
     let a : answer row (first + i) (length (c .loop-i .segment)) ≡ Ok tt = ap (answer row (first + i)) (c .loop-i .inv .0) ∙ probed row first (c .args .n) i f (c .loop-i-test .taken) in
-    let part = c .read .ensures .after ∙ only-done (answer row (first + i) (length (c .loop-i .segment))) (bytesOf (getD row (first + i) bad)) (c .loop-i .segment) a ∙ sym (span-at row first (c .args .n) i (g .S·SegmentStore .proper s) f (c .loop-i-test .taken)) in
-    (n,
-     put-more (g .T·SegmentStore .row (c .args .to .now)) (g .T·SegmentStore .row (c .loop-i .to)) _ first (c .args .n) i (span row first (c .args .n)) _ t (c .loop-i-test .taken)
-     (c .loop-i .inv .1) part n (c .write .ensures .after),
-     c .write .ensures .kept ∙ c .loop-i .inv .2,
-     c .write .ensures .framed ∙ c .loop-i .inv .3)
+    let part = c .read .ensures .after ∙ only-done (answer row (first + i) (length (c .loop-i .segment))) (bytesOf (getD row (first + i) bad)) (c .loop-i .segment) a ∙ sym (span-at row first (c .args .n) i (g .S·SegmentStore .proper s) f (c .loop-i-test .taken)) in (
+      n,
+      put-more (g .T·SegmentStore .row (c .args .to .now)) (g .T·SegmentStore .row (c .loop-i .to)) _ first (c .args .n) i (span row first (c .args .n)) _ t (c .loop-i-test .taken)
+          (c .loop-i .inv .1) part n (c .write .ensures .after),
+      c .write .ensures .kept ∙ c .loop-i .inv .2,
+      c .write .ensures .framed ∙ c .loop-i .inv .3,
+    )
 
 pub returns : need.returns
 returns g c =

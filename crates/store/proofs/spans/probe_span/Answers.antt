@@ -1,4 +1,4 @@
-use mathlib.Core.Path.{_≡_, _∙_}
+use mathlib.Core.Path.{_∙_}
 use Prim.Native.Nat.{_^_, _<_}
 use native.Mathlib.Omega.{arith}
 use Rattle.std.proofs.shelf.Results.{err-from-errBy}
@@ -19,7 +19,8 @@ returns-in-Break-of-file g c =
     (c .loop-i .inv .1) (c .loop-i-test .taken) (c .loop-i .inv .0) (c .read .ensures .value) (c .in-Break-of-file .ensures tt))
 
 pub loop-i-again : need.loop-i-again
-loop-i-again g c =
-    (c .read .kept .buffer ∙ c .loop-i .inv .0,
-     probe-passed (g .S·SegmentStore .row (c .args .store .now)) (c .args .file) (c .args .first) (c .loop-i .i) _ (c .read .result) _
-     (c .loop-i .inv .1) (c .loop-i .inv .0) (c .read .ensures .value) (c .in-Continue-of-file .ensures tt))
+loop-i-again g c = (
+  c .read .kept .buffer ∙ c .loop-i .inv .0,
+  probe-passed (g .S·SegmentStore .row (c .args .store .now)) (c .args .file) (c .args .first) (c .loop-i .i) _ (c .read .result) _
+      (c .loop-i .inv .1) (c .loop-i .inv .0) (c .read .ensures .value) (c .in-Continue-of-file .ensures tt),
+)

@@ -1,14 +1,13 @@
-use mathlib.Core.Path.{_≡_, refl, sym, ap, _∙_}
+use mathlib.Core.Path.{_≡_, sym, ap, _∙_}
 use Prim.Native.Nat.{_+_, _-_, _*_, _/_, _^_, _<_, _≤_}
 use native.Mathlib.Omega.{arith}
 use lib.ListN.{length, take, drop}
 use Rattle.std.specs.declared.result.Result.the-variants.{Ok}
 use Rattle.std.proofs.shelf.Lists.{take-all, length-take, length-drop}
-use Rattle.std.proofs.shelf.Results.{err-from-errBy}
 use Rattle.store.specs.Faults.{named}
 use Rattle.store.specs.Rows.{answer}
 use Rattle.store.specs.Spans.{span, probe, spanAnswer}
-use Rattle.store.proofs.SpanLaws.{next-fits, probed, probe-done, probe-front, never-refused, span-done, span-refused, only-done, only-refused, read-more}
+use Rattle.store.proofs.SpanLaws.{next-fits, probed, probe-done, probe-front, never-refused, span-done, only-done, read-more}
 use Rattle.store.proofs.spans.read_span.Needs as need
 use Rattle.store.proofs.spans.read_span.Needs.{In-Continue-probe-span}
 

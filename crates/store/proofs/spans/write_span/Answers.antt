@@ -2,15 +2,14 @@ use mathlib.Core.Path.{_≡_, refl, sym, ap, subst, _∙_}
 use mathlib.Core.List.{List}
 use Prim.Native.Nat.{_+_, _-_, _*_, _/_, _^_, _<_, _≤_}
 use native.Mathlib.Omega.{arith}
-use lib.ListN.{length, take, drop}
+use lib.ListN.{length}
 use Rattle.std.specs.declared.result.Result.the-variants.{Ok}
 use Rattle.std.proofs.shelf.Lists.{length-take, length-drop}
-use Rattle.std.proofs.shelf.Results.{err-from-errBy}
 use Rattle.store.specs.Faults.{named}
 use Rattle.store.specs.Rows.{Segment, goods}
 use Rattle.store.specs.Spans.{probe, put, spanAnswer, Wrote}
-use Rattle.store.proofs.Answering.{refused-not-done, answer-goods}
-use Rattle.store.proofs.SpanLaws.{next-fits, probe-done, probe-front, never-refused, span-done, span-refused, only-done, only-refused, put-goods, put-more, put-wrote}
+use Rattle.store.proofs.Answering.{answer-goods}
+use Rattle.store.proofs.SpanLaws.{next-fits, probe-done, probe-front, never-refused, span-done, only-done, put-goods, put-more, put-wrote}
 use Rattle.store.proofs.spans.write_span.Needs as need
 use Rattle.store.proofs.spans.write_span.Needs.{In-Continue-probe-span}
 
@@ -43,11 +42,12 @@ loop-i-again g c =
     let row = g .S·SegmentStore .row (c .args .store .now) in
     let i = c .loop-i .i in
     let b = c .args .buffer .now in
-    let long : i * 512 + 512 ≤ length b = omega arith in
-    (put-more row (g .S·SegmentStore .row (c .loop-i .store)) _ (c .args .first) (length b / 512) i b _ (there g (need.at·loop-i-again g c .In-Continue-probe-span)) (c .loop-i-test .taken)
-     (c .loop-i .inv .0) refl (simp (length-take, length-drop) (omega arith)) (c .write .ensures .after),
-     c .write .ensures .kept ∙ c .loop-i .inv .1,
-     c .write .ensures .framed ∙ c .loop-i .inv .2)
+    let long : i * 512 + 512 ≤ length b = omega arith in (
+      put-more row (g .S·SegmentStore .row (c .loop-i .store)) _ (c .args .first) (length b / 512) i b _ (there g (need.at·loop-i-again g c .In-Continue-probe-span)) (c .loop-i-test .taken)
+          (c .loop-i .inv .0) refl (simp (length-take, length-drop) (omega arith)) (c .write .ensures .after),
+      c .write .ensures .kept ∙ c .loop-i .inv .1,
+      c .write .ensures .framed ∙ c .loop-i .inv .2,
+    )
 
 pub returns : need.returns
 returns g c =

@@ -2,13 +2,12 @@ use mathlib.Core.Path.{_≡_, refl, sym, ap, _∙_}
 use Prim.Native.Nat.{_<_, _/_, _*_}
 use native.Mathlib.Omega.{arith}
 use borrow.Rule.Slice.PartMut.{putMid}
-use lib.ListN.{length, set}
-use Rattle.store.specs.Faults.{onlyIf}
-use Rattle.store.specs.Rows.{good, goods, writeAfter}
-use Rattle.areas.specs.PlainRows.{plainRow, plainFrame}
+use lib.ListN.{length}
+use Rattle.store.specs.Rows.{goods, writeAfter}
 use Rattle.store.proofs.Answering.{goods-kept}
+use Rattle.areas.specs.PlainRows.{plainRow, plainFrame}
 use Rattle.areas.proofs.Memory.{putMid-same}
-use Rattle.areas.proofs.PlainParts.{plain-write, plain-framed}
+use Rattle.areas.proofs.PlainParts.{plain-after, plain-framed}
 use Rattle.areas.proofs.plain.PlainAreaStore.write.Needs as need
 
 pub returns : need.returns
@@ -19,8 +18,8 @@ returns c =
     let b = c .args .buffer .now in
     let inside = q .2 .inside in
     let h : i < length m / 512 = omega (arith, q .0, inside) in
-    let e = putMid-same _ (i * 512) _ 512 m m _ b (q .0) (omega arith) refl (c .copy-from-slice .ensures .after) in
-    let after = ap plainRow e ∙ plain-write m b i (q .1) h (q .2 .fit) ∙ sym (ap (λ a. onlyIf a (set (plainRow m) i (good b)) (plainRow m)) (q .2 .allowed)) in
+    let e : _ ≡ putMid (i * 512) 512 m b = putMid-same _ (i * 512) _ 512 m m _ b (q .0) (omega arith) refl (c .copy-from-slice .ensures .after) in
+    let after : _ ≡ writeAfter (plainRow m) i b = ap plainRow e ∙ plain-after m b i (q .1) h (q .2 .fit) in
     record {
       value = sym (q .2 .allowed);
       after = after;
