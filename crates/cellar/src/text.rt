@@ -1,9 +1,9 @@
 //! A text as segments, and a pool of pages to store them in.
 ghost use mathlib.Core.List.{_++_};
 ghost use mathlib.Core.Path.{_≡_};
-ghost use Prim.Native.Nat.{_-_, _*_, _<_, _≤_};
+ghost use Prim.Native.Nat.{_+_, _-_, _*_, _/_, _<_, _≤_};
 ghost use lib.ListN.{length, replicate};
-ghost use Rattle.std.specs.Of.Vec.{vec-items};
+ghost use Rattle.std.specs.Of.Vec.{vec-items, vec-len};
 ghost use Rattle.std.specs.Options.{Cases as BySome};
 ghost use Rattle.std.specs.Vec.{made};
 use std::alloc::AllocError;
@@ -15,7 +15,7 @@ const MOST: usize = 65_533;
 
 /// The segments that hold a text, at least one, or none where it is too long.
 pub fn segments_for(length: usize) -> Option<u16>
-    ensures { λ r. ⌜ BySome r (65533 * 512 < length) (λ n. (0 < n) × (n ≤ 65533) × (length ≤ n * 512)) ⌝ }
+    ensures { λ r. ⌜ BySome r (65533 * 512 < length) (λ n. (n ≡ (length - 1) / 512 + 1) × (length ≤ 65533 * 512)) ⌝ }
 {
     let n = length.saturating_sub(1) / SEGMENT;
     if n < MOST { Some(n as u16 + 1) } else { None }
@@ -33,7 +33,9 @@ pub fn padded(heap: Global, text: &[u8], n: u16) -> Result<Vec<u8>, AllocError>
     Ok(bytes)
 }
 
-fn push_page(pool: &mut Vec<u8>, next: u16, mark: u8) -> Result<(), AllocError> {
+fn push_page(pool: &mut Vec<u8>, next: u16, mark: u8) -> Result<(), AllocError>
+    ensures { λ r. ⌜ made r (λ _. vec-len (now (pool .exit)) ≡ vec-len (now (pool .entry)) + 516) ⌝ }
+{
     let [high, low] = next.to_be_bytes();
     pool.extend_from_slice(&[high, low, mark, 0])?;
     pool.extend_from_slice(&[0; SEGMENT])
@@ -41,7 +43,9 @@ fn push_page(pool: &mut Vec<u8>, next: u16, mark: u8) -> Result<(), AllocError> 
 
 /// A pool of empty pages. Each but the last names the page before it, so that the chain
 /// from the last but one runs backwards through the memory, and ends at page 1, which is bad.
-pub fn laid_out(heap: Global, pages: u16) -> Result<Vec<u8>, AllocError> {
+pub fn laid_out(heap: Global, pages: u16) -> Result<Vec<u8>, AllocError>
+    ensures { λ r. ⌜ made r (λ v. vec-len v ≡ pages * 516) ⌝ }
+{
     let mut pool = Vec::new(heap);
     for before in 0..pages {
         let next = if before + 1 == pages { 0 } else { before };
