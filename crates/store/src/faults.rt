@@ -7,10 +7,10 @@ use std::fmt;
 /// No file, in a fault.
 pub const NO_FILE: u8 = 0;
 
-/// The file of mother records.
+/// The file of mother records: one for each gyle (a brew) or stock item.
 pub const MOTHER_FILE: u8 = 1;
 
-/// The file of movements.
+/// The file of movements: what became of a gyle or an item, such as a racking.
 pub const MOVEMENT_FILE: u8 = 2;
 
 /// A refusal, as every layer hands it up.

@@ -17,8 +17,10 @@ pub const SEGMENT: usize = 512;
 
 /// A numbered row of segments, at least one. How many there are, and which are bad, never changes.
 pub trait SegmentStore {
+    // The row that the store stands for.
     ghost row: { Self → List Segment };
 
+    // A row has a segment, and each good one holds 512 bytes.
     ghost proper: { (s : Self) → Proper (row s) };
 
     // The names of the memory that is lent to the store: its lender has it again when the store is let go.

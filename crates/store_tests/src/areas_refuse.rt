@@ -1,7 +1,8 @@
 //! What the areas refuse, one call after another, and that the first no decides.
 use super::pool::SIZE;
 use super::pool::link;
-use super::pool::no;
+use super::pool::number;
+use super::pool::said;
 use areas::chained::ChainedArea;
 use areas::chained::ChainedAreaStore;
 use areas::index::Chain;
@@ -11,72 +12,46 @@ use std::test::*;
 use store::SegmentStore;
 use store::faults::Fault;
 use store::faults::FaultDebug;
+use store::faults::FaultDisplay;
 use store::faults::FaultPartialEq;
 use store::faults::Refusal;
 
 #[test]
-fn a_fault_says_all() -> Result<(), Fail> {
-    let fault = Fault {
-        number: 13,
-        layer: 1,
-        file: 2,
-        segment: 70_000,
-    };
-    check_eq(Refusal::BadSegment(70_000).fault().in_file(2), fault)?;
+fn a_fault_says_all(rt: LibcRuntime) -> Result<(), Fail> {
+    let fault = Refusal::BadSegment(70_000).fault().in_file(2);
     check_eq(
-        Refusal::WrongBuffer.fault(),
+        fault,
         Fault {
-            number: 11,
+            number: 13,
             layer: 1,
-            file: 0,
-            segment: 0,
+            file: 2,
+            segment: 70_000,
         },
     )?;
-    check_eq(
-        Refusal::NoSegment(9).fault(),
-        Fault {
-            number: 12,
-            layer: 1,
-            file: 0,
-            segment: 9,
-        },
-    )?;
-    check_eq(
-        Refusal::UnfitMemory.fault(),
-        Fault {
-            number: 14,
-            layer: 1,
-            file: 0,
-            segment: 0,
-        },
-    )?;
-    check_eq(
-        Refusal::BrokenChain.fault(),
-        Fault {
-            number: 15,
-            layer: 1,
-            file: 0,
-            segment: 0,
-        },
-    )
+    let text = format!(rt.alloc(), "{fault}")?;
+    check(text.as_str() == "refused 13 layer 1 file 2 segment 70000")?;
+    let all = [
+        said(Err(Refusal::WrongBuffer.fault())),
+        said(Err(Refusal::NoSegment(9).fault())),
+        said(Err(Refusal::UnfitMemory.fault())),
+        said(Err(Refusal::BrokenChain.fault())),
+    ];
+    check_eq(all, [(11, 0, 0), (12, 0, 9), (14, 0, 0), (15, 0, 0)])
 }
 
 #[test]
-fn plain_memory_is_whole_segments() -> Result<(), Fail> {
-    let memory = [0; 1025];
-    check_eq(PlainArea::look(&memory[0..0]), no(Refusal::UnfitMemory))?;
-    check_eq(PlainArea::look(&memory[0..511]), no(Refusal::UnfitMemory))?;
-    check_eq(PlainArea::look(&memory[0..512]), Ok(()))?;
-    check_eq(PlainArea::look(&memory[0..1024]), Ok(()))?;
-    check_eq(PlainArea::look(&memory), no(Refusal::UnfitMemory))
-}
-
-#[test]
-fn most_segments(rt: LibcRuntime) -> Result<(), Fail> {
+fn plain_memory_is_whole_segments(rt: LibcRuntime) -> Result<(), Fail> {
     let memory = vec![in rt.alloc(); 0u8; 33_554_432]?;
-    check_eq(PlainArea::look(&memory), no(Refusal::UnfitMemory)).note("65,536 segments")?;
     check(memory.len() == 33_554_432)?;
-    check_eq(PlainArea::look(&memory[0..33_553_920]), Ok(())).note("65,535 segments")
+    let looks = [
+        number(PlainArea::look(&memory[0..0])),
+        number(PlainArea::look(&memory[0..511])),
+        number(PlainArea::look(&memory[0..512])),
+        number(PlainArea::look(&memory[0..1025])),
+        number(PlainArea::look(&memory[0..33_553_920])),
+        number(PlainArea::look(&memory)),
+    ];
+    check_eq(looks, [14, 14, 0, 14, 0, 14]).note("from 1 to 65,535 segments")
 }
 
 #[test]
@@ -84,20 +59,23 @@ fn plain_calls_refuse_in_order() -> Result<(), Fail> {
     let mut memory = [7; 1024];
     let mut buffer = [0; 600];
     let mut area = PlainArea::new(&mut memory);
-    check_eq(area.count(), 2)?;
-    check_eq(area.read(2, &mut buffer[0..511]), no(Refusal::WrongBuffer)).note("11 before 12")?;
-    check_eq(area.write(9, &buffer[0..513]), no(Refusal::WrongBuffer))?;
-    check_eq(area.read(2, &mut buffer[0..512]), no(Refusal::NoSegment(2)))?;
+    let refused = [
+        said(area.read(2, &mut buffer[0..511])),
+        said(area.write(9, &buffer[0..513])),
+        said(area.read(2, &mut buffer[0..512])),
+        said(area.write(usize::MAX, &buffer[0..512])),
+    ];
     check_eq(
-        area.write(usize::MAX, &buffer[0..512]),
-        no(Refusal::NoSegment(usize::MAX)),
+        refused,
+        [(11, 0, 0), (11, 0, 0), (12, 0, 2), (12, 0, usize::MAX)],
     )?;
-    check_eq(buffer[0], 0).note("a refused read leaves the buffer")?;
-    check_eq(area.write(1, &buffer[0..512]), Ok(()))?;
-    check_eq(area.read(0, &mut buffer[0..512]), Ok(()))?;
-    check_eq(buffer[511], 7)?;
-    check_eq(memory[511], 7)?;
-    check_eq(memory[512], 0)
+    check_eq((area.count(), buffer[0]), (2, 0)).note("a refused read leaves the buffer")?;
+    let done = [
+        said(area.write(1, &buffer[0..512])),
+        said(area.read(0, &mut buffer[0..512])),
+    ];
+    check_eq(done, [(0, 0, 0), (0, 0, 0)])?;
+    check_eq([buffer[511], memory[511], memory[512]], [7, 7, 0])
 }
 
 #[test]
@@ -105,11 +83,13 @@ fn made_after_a_no_it_is_one_bad_segment() -> Result<(), Fail> {
     let mut memory = [7; 1023];
     let mut buffer = [0; 512];
     let mut area = PlainArea::new(&mut memory);
-    check_eq(area.count(), 1)?;
-    check_eq(area.read(1, &mut buffer), no(Refusal::NoSegment(1))).note("12 before 13")?;
-    check_eq(area.read(0, &mut buffer), no(Refusal::BadSegment(0)))?;
-    check_eq(area.write(0, &buffer), no(Refusal::BadSegment(0)))?;
-    check_eq(memory[0], 7)
+    let refused = [
+        said(area.read(1, &mut buffer)),
+        said(area.read(0, &mut buffer)),
+        said(area.write(0, &buffer)),
+    ];
+    check_eq(refused, [(12, 0, 1), (13, 0, 0), (13, 0, 0)])?;
+    check_eq((area.count(), memory[0]), (1, 7))
 }
 
 #[test]
@@ -120,13 +100,19 @@ fn chained_calls_refuse_in_order(rt: LibcRuntime) -> Result<(), Fail> {
     link(&mut pool, 2, 0, 1);
     let chain = Chain::of(rt.alloc(), &pool, 4)?;
     let mut area = ChainedArea::new(&mut pool, &chain);
+    let calls = [
+        said(area.read(2, &mut buffer[0..0])),
+        said(area.read(2, &mut buffer)),
+        said(area.read(1, &mut buffer)),
+        said(area.write(1, &buffer)),
+        said(area.write(0, &buffer)),
+    ];
+    check_eq(
+        calls,
+        [(11, 0, 0), (12, 0, 2), (13, 0, 1), (13, 0, 1), (0, 0, 0)],
+    )?;
     check_eq(area.count(), 2)?;
-    check_eq(area.read(2, &mut buffer[0..0]), no(Refusal::WrongBuffer))?;
-    check_eq(area.read(2, &mut buffer), no(Refusal::NoSegment(2)))?;
-    check_eq(area.read(1, &mut buffer), no(Refusal::BadSegment(1)))?;
-    check_eq(area.write(1, &buffer), no(Refusal::BadSegment(1)))?;
-    check_eq(area.write(0, &buffer), Ok(()))?;
-    check_eq(pool[3 * 516 + 4], 9).note("page 4 is segment 0")?;
-    check_eq(pool[3 * 516 + 1], 2).note("and names page 2 as before")?;
-    check_eq(pool[516 + 4], 0)
+    check_eq([pool[1552], pool[1549], pool[520]], [9, 2, 0]).note(
+        "page 4 written, its link and page 2 not",
+    )
 }

@@ -1,9 +1,8 @@
-//! Pools of five pages to make chains in.
+//! Pools of five pages to make chains in, and what a call said.
 use areas::index::PAGE;
 use store::faults::Fault;
-use store::faults::Refusal;
 
-/// Five pages, none of them linked.
+/// The bytes of five pages.
 pub const SIZE: usize = 2580;
 
 /// Puts the number of the next page and the mark into a page's leading bytes.
@@ -18,12 +17,18 @@ pub fn link(pool: &mut [u8; SIZE], page: u16, next: u16, mark: u8) {
     pool[base + 2] = mark;
 }
 
-/// A store's refusal.
-pub fn no(refusal: Refusal) -> Result<(), Fault> {
-    Err(refusal.fault())
+/// The number of a refusal, 0 for none.
+pub fn number(outcome: Result<(), Fault>) -> u8 {
+    match outcome {
+        Ok(()) => 0,
+        Err(fault) => fault.number,
+    }
 }
 
-/// A store's refusal that came up through a file.
-pub fn no_in(file: u8, refusal: Refusal) -> Result<(), Fault> {
-    Err(refusal.fault().in_file(file))
+/// The number, file and segment of a refusal, zeros for none.
+pub fn said(outcome: Result<(), Fault>) -> (u8, u8, usize) {
+    match outcome {
+        Ok(()) => (0, 0, 0),
+        Err(fault) => (fault.number, fault.file, fault.segment),
+    }
 }

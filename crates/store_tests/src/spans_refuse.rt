@@ -1,7 +1,7 @@
 //! Spans over both makes: what they hold, what they refuse, and that a refusal leaves all as it was.
 use super::pool::SIZE;
 use super::pool::link;
-use super::pool::no_in;
+use super::pool::said;
 use areas::chained::ChainedArea;
 use areas::chained::ChainedAreaStore;
 use areas::index::Chain;
@@ -10,11 +10,8 @@ use areas::lends::unchain;
 use areas::plain::PlainArea;
 use areas::plain::PlainAreaStore;
 use std::test::*;
-use store::faults::FaultDebug;
-use store::faults::FaultPartialEq;
 use store::faults::MOTHER_FILE;
 use store::faults::MOVEMENT_FILE;
-use store::faults::Refusal;
 use store::spans::copy_span;
 use store::spans::probe_span;
 use store::spans::read_span;
@@ -25,30 +22,33 @@ fn spans_of_a_plain_area() -> Result<(), Fail> {
     let mut memory = [1; 2048];
     let mut buffer = [2; 1024];
     let mut area = PlainArea::new(&mut memory);
-    check_eq(probe_span(&area, MOTHER_FILE, 0, 4), Ok(()))?;
+    let asked = [
+        said(probe_span(&area, MOTHER_FILE, 0, 4)),
+        said(probe_span(&area, MOTHER_FILE, 3, 2)),
+        said(probe_span(&area, MOTHER_FILE, usize::MAX, usize::MAX)),
+        said(read_span(&area, MOTHER_FILE, 3, &mut buffer)),
+        said(write_span(&mut area, MOTHER_FILE, 1, &buffer[0..1023])),
+    ];
     check_eq(
-        probe_span(&area, MOTHER_FILE, 3, 2),
-        no_in(1, Refusal::NoSegment(4)),
-    )?;
-    check_eq(
-        probe_span(&area, MOTHER_FILE, usize::MAX, usize::MAX),
-        no_in(1, Refusal::NoSegment(usize::MAX)),
-    )?;
-    check_eq(
-        read_span(&area, MOTHER_FILE, 3, &mut buffer),
-        no_in(1, Refusal::NoSegment(4)),
+        asked,
+        [
+            (0, 0, 0),
+            (12, 1, 4),
+            (12, 1, usize::MAX),
+            (12, 1, 4),
+            (11, 1, 0),
+        ],
     )?;
     check_eq(buffer[0], 2).note("a refused span leaves the whole buffer")?;
+    let done = [
+        said(write_span(&mut area, MOTHER_FILE, 1, &buffer)),
+        said(read_span(&area, MOTHER_FILE, 0, &mut buffer)),
+    ];
+    check_eq(done, [(0, 0, 0), (0, 0, 0)])?;
     check_eq(
-        write_span(&mut area, MOTHER_FILE, 1, &buffer[0..1023]),
-        no_in(1, Refusal::WrongBuffer),
-    )?;
-    check_eq(write_span(&mut area, MOTHER_FILE, 1, &buffer), Ok(()))?;
-    check_eq(read_span(&area, MOTHER_FILE, 0, &mut buffer), Ok(()))?;
-    check_eq(buffer[511], 1)?;
-    check_eq(buffer[512], 2)?;
-    check_eq(memory[1535], 2)?;
-    check_eq(memory[1536], 1)
+        [buffer[511], buffer[512], memory[1535], memory[1536]],
+        [1, 2, 2, 1],
+    )
 }
 
 #[test]
@@ -58,27 +58,20 @@ fn a_bad_segment_in_a_span(rt: LibcRuntime) -> Result<(), Fail> {
     link(&mut pool, 4, 3, 1);
     let chain = Chain::of(rt.alloc(), &pool, 5)?;
     let wide = [6; 1536];
-    let filled = fill_chain(&mut pool, &chain, MOVEMENT_FILE, 0, &wide);
-    check_eq(filled, no_in(2, Refusal::BadSegment(1)))?;
-    check_eq(pool[4 * 516 + 4], 0).note("nothing of a refused span is written")?;
-    check_eq(
-        fill_chain(&mut pool, &chain, MOVEMENT_FILE, 2, &wide[0..512]),
-        Ok(()),
-    )?;
-    check_eq(pool[2 * 516 + 4], 6)?;
     let mut memory = [0; 1536];
     check_eq(
-        unchain(&mut pool, &chain, &mut memory, MOTHER_FILE, 3),
-        no_in(1, Refusal::BadSegment(1)),
+        said(fill_chain(&mut pool, &chain, MOVEMENT_FILE, 0, &wide)),
+        (13, 2, 1),
     )?;
-    check_eq(
-        unchain(&mut pool, &chain, &mut memory, MOTHER_FILE, 1),
-        Ok(()),
-    )?;
-    check_eq(
-        unchain(&mut pool, &chain, &mut memory[0..512], MOTHER_FILE, 2),
-        no_in(1, Refusal::BadSegment(1)),
-    )
+    check_eq(pool[2068], 0).note("nothing of a refused span is written")?;
+    let calls = [
+        said(fill_chain(&mut pool, &chain, MOVEMENT_FILE, 2, &wide[0..512])),
+        said(unchain(&mut pool, &chain, &mut memory, MOTHER_FILE, 3)),
+        said(unchain(&mut pool, &chain, &mut memory, MOTHER_FILE, 1)),
+        said(unchain(&mut pool, &chain, &mut memory[0..512], MOTHER_FILE, 2)),
+    ];
+    check_eq(calls, [(0, 0, 0), (13, 1, 1), (0, 0, 0), (13, 1, 1)])?;
+    check_eq(pool[1036], 6).note("segment 2 is page 3")
 }
 
 #[test]
@@ -89,11 +82,10 @@ fn copies_go_either_way(rt: LibcRuntime) -> Result<(), Fail> {
     let mut memory = [3; 1024];
     let from = PlainArea::new(&mut memory);
     let mut to = ChainedArea::new(&mut pool, &chain);
-    check_eq(
-        copy_span(&from, &mut to, MOTHER_FILE, 0, 3),
-        no_in(1, Refusal::NoSegment(2)),
-    )?;
-    check_eq(copy_span(&from, &mut to, MOTHER_FILE, 1, 1), Ok(()))?;
-    check_eq(pool[4], 3).note("segment 1 is page 1")?;
-    check_eq(pool[516 + 4], 0)
+    let calls = [
+        said(copy_span(&from, &mut to, MOTHER_FILE, 0, 3)),
+        said(copy_span(&from, &mut to, MOTHER_FILE, 1, 1)),
+    ];
+    check_eq(calls, [(12, 1, 2), (0, 0, 0)])?;
+    check_eq([pool[4], pool[520]], [3, 0]).note("segment 1 is page 1")
 }
