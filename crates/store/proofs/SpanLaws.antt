@@ -64,7 +64,7 @@ probed row first (suc n) i e l =
     (λ (k : n ≤ i). let z : n ≡ i = omega arith in subst (λ j. answer row (first + j) 512 ≡ Ok tt) z (p .1))
     (cases-lt i n)
 
-pub probe-front : (row : List Segment) (first i n : ℕ) → i ≤ n → probe row first n ≡ Ok tt → probe row first i ≡ Ok tt
+probe-front : (row : List Segment) (first i n : ℕ) → i ≤ n → probe row first n ≡ Ok tt → probe row first i ≡ Ok tt
 probe-front row first i zero l e = let z : 0 ≡ i = omega arith in subst (λ k. probe row first k ≡ Ok tt) z e
 probe-front row first i (suc n) l e =
     ⊎-elim
@@ -76,6 +76,9 @@ probe-front row first i (suc n) l e =
 pub next-fits : (row : List Segment) (first i : ℕ) → Proper row → first < 2 ^ 64 → probe row first i ≡ Ok tt → first + i < 2 ^ 64
 next-fits row first zero p h e = omega arith
 next-fits row first (suc i) p h e = omega (arith, p .counted, allowed-means row (first + i) 512 (probed row first (suc i) i e (omega arith)) .there)
+
+pub number-fits : (row : List Segment) (first i n : ℕ) → Proper row → first < 2 ^ 64 → i ≤ n → probe row first n ≡ Ok tt → first + i < 2 ^ 64
+number-fits row first i n p h l e = next-fits row first i p h (probe-front row first i n l e)
 
 pub never-refused : (row : List Segment) (file first n i size : ℕ) (a : Answer) (f : Fault) → probe row first n ≡ Ok tt → i < n → size ≡ 512 → a ≡ answer row (first + i) size → Err f ≡ named file a → ⊥
 never-refused row file first n i size a f e l s h d =
@@ -116,7 +119,7 @@ same-span row row′ first zero h = refl
 same-span row row′ first (suc n) h =
     ap₂ _++_ (same-span row row′ first n (λ i a b. h i a (omega arith))) (ap bytesOf (h (first + n) (omega arith) (omega arith)))
 
-pub put-goods : (row : List Segment) (first n : ℕ) (bytes : List ℕ) → probe row first n ≡ Ok tt → goods (put row first n bytes) ≡ goods row
+put-goods : (row : List Segment) (first n : ℕ) (bytes : List ℕ) → probe row first n ≡ Ok tt → goods (put row first n bytes) ≡ goods row
 put-goods row first zero bytes e = refl
 put-goods row first (suc n) bytes e =
     let before = put row first n bytes in
@@ -163,6 +166,13 @@ put-wrote row first n bytes h e =
       apart = λ at m o. same-span row (put row first n bytes) at m (λ i a b. put-other row first n bytes i (⊎-elim (λ (k : at + m ≤ first). inl (omega arith)) (λ (k : first + n ≤ at). inr (omega arith)) o));
       marks = put-goods row first n bytes e;
     }
+
+-- a segment of a probed span is still not refused where some were put in before it
+pub never-refused-behind : (row row′ : List Segment) (file first n i size : ℕ) (bytes : List ℕ) (a : Answer) (f : Fault)
+    → probe row first n ≡ Ok tt → i < n → row′ ≡ put row first i bytes → size ≡ 512 → a ≡ answer row′ (first + i) size → Err f ≡ named file a → ⊥
+never-refused-behind row row′ file first n i size bytes a f e l h s q d =
+    let g : goods row′ ≡ goods row = ap goods h ∙ put-goods row first i bytes (probe-front row first i n (omega arith) e) in
+    never-refused row file first n i size a f e l s (q ∙ answer-goods row row′ (first + i) size g) d
 
 -- a segment written behind those that were
 pub put-more : (row row′ row″ : List Segment) (first n i : ℕ) (bytes part : List ℕ) → probe row first n ≡ Ok tt → i < n → row′ ≡ put row first i bytes → part ≡ bytesFrom bytes (i * 512) → length part ≡ 512

@@ -3,10 +3,10 @@ use areas::index::PAGE;
 use store::faults::Fault;
 
 /// The bytes of five pages.
-pub const SIZE: usize = 2580;
+pub(crate) const SIZE: usize = 2580;
 
 /// Puts the number of the next page and the mark into a page's leading bytes.
-pub fn link(pool: &mut [u8; SIZE], page: u16, next: u16, mark: u8) {
+pub(crate) fn link(pool: &mut [u8; SIZE], page: u16, next: u16, mark: u8) {
     if page == 0 || page > 5 {
         return;
     }
@@ -18,7 +18,7 @@ pub fn link(pool: &mut [u8; SIZE], page: u16, next: u16, mark: u8) {
 }
 
 /// The number of a refusal, 0 for none.
-pub fn number(outcome: Result<(), Fault>) -> u8 {
+pub(crate) fn number(outcome: Result<(), Fault>) -> u8 {
     match outcome {
         Ok(()) => 0,
         Err(fault) => fault.number,
@@ -26,7 +26,7 @@ pub fn number(outcome: Result<(), Fault>) -> u8 {
 }
 
 /// The number, file and segment of a refusal, zeros for none.
-pub fn said(outcome: Result<(), Fault>) -> (u8, u8, usize) {
+pub(crate) fn said(outcome: Result<(), Fault>) -> (u8, u8, usize) {
     match outcome {
         Ok(()) => (0, 0, 0),
         Err(fault) => (fault.number, fault.file, fault.segment),

@@ -5,10 +5,9 @@ use native.Mathlib.Omega.{arith}
 use lib.ListN.{length, getD}
 use Rattle.std.specs.declared.result.Result.the-variants.{Ok}
 use Rattle.store.specs.Faults.{named}
-use Rattle.store.specs.Rows.{Segment, bad, bytesOf, goods, answer}
+use Rattle.store.specs.Rows.{Segment, bad, bytesOf, answer}
 use Rattle.store.specs.Spans.{span, probe, put, copyAnswer, Wrote}
-use Rattle.store.proofs.Answering.{answer-goods}
-use Rattle.store.proofs.SpanLaws.{next-fits, probed, probe-done, probe-front, never-refused, only-done, put-goods, put-more, put-wrote, length-span, span-at, copy-asked}
+use Rattle.store.proofs.SpanLaws.{number-fits, probed, probe-done, never-refused, never-refused-behind, only-done, put-more, put-wrote, length-span, span-at, copy-asked}
 use Rattle.store.proofs.spans.copy_span.Needs as need
 use Rattle.store.proofs.spans.copy_span.Needs.{In-Continue-probe-span, In-Continue-probe-span-2}
 
@@ -21,10 +20,8 @@ to-there g c = probe-done (g .T·SegmentStore .row (c .args .to .now)) (c .args 
 pub add-first : need.add-first
 add-first g c =
     let s = c .args .from .now in
-    let row = g .S·SegmentStore .row s in
     let f : c .args .first < 2 ^ 64 = omega arith in
-    let p = probe-front row (c .args .first) (c .loop-i .i) (c .args .n) (c .loop-i .kept .i-end) (from-there g (need.at·add-first g c .In-Continue-probe-span)) in
-    omega (arith, next-fits row (c .args .first) (c .loop-i .i) (g .S·SegmentStore .proper s) f p)
+    omega (arith, number-fits (g .S·SegmentStore .row s) (c .args .first) (c .loop-i .i) (c .args .n) (g .S·SegmentStore .proper s) f (c .loop-i .kept .i-end) (from-there g (need.at·add-first g c .In-Continue-probe-span)))
 
 pub returns-in-Break-of-file : need.returns-in-Break-of-file
 returns-in-Break-of-file g c =
@@ -33,14 +30,9 @@ returns-in-Break-of-file g c =
 
 pub returns-in-Break-of-file-2 : need.returns-in-Break-of-file-2
 returns-in-Break-of-file-2 g c =
-    let row = g .T·SegmentStore .row (c .args .to .now) in
-    let row′ = g .T·SegmentStore .row (c .loop-i .to) in
-    let first = c .args .first in
-    let i = c .loop-i .i in
-    let t = to-there g (need.at·returns-in-Break-of-file-2 g c .In-Continue-probe-span-2) in
-    let same : goods row′ ≡ goods row = ap goods (c .loop-i .inv .1) ∙ put-goods row first i _ (probe-front row first i (c .args .n) (c .loop-i .kept .i-end) t) in
-    absurd (never-refused row (c .args .file) first (c .args .n) i _ (c .write .result) _ t (c .loop-i-test .taken) (c .read .kept .buffer ∙ c .loop-i .inv .0)
-    (c .write .ensures .value ∙ answer-goods row row′ (first + i) _ same) (c .in-Break-of-file-2 .ensures tt))
+    let from = g .S·SegmentStore .row (c .args .from .now) in
+    absurd (never-refused-behind (g .T·SegmentStore .row (c .args .to .now)) (g .T·SegmentStore .row (c .loop-i .to)) (c .args .file) (c .args .first) (c .args .n) (c .loop-i .i) _ (span from (c .args .first) (c .args .n)) (c .write .result) _
+    (to-there g (need.at·returns-in-Break-of-file-2 g c .In-Continue-probe-span-2)) (c .loop-i-test .taken) (c .loop-i .inv .1) (c .read .kept .buffer ∙ c .loop-i .inv .0) (c .write .ensures .value) (c .in-Break-of-file-2 .ensures tt))
 
 pub loop-i-again : need.loop-i-again
 loop-i-again g c =

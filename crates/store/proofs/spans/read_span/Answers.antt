@@ -7,7 +7,7 @@ use Rattle.std.proofs.shelf.Lists.{take-all, length-take, length-drop}
 use Rattle.store.specs.Faults.{named}
 use Rattle.store.specs.Rows.{answer}
 use Rattle.store.specs.Spans.{span, probe, spanAnswer}
-use Rattle.store.proofs.SpanLaws.{next-fits, probed, probe-done, probe-front, never-refused, span-done, only-done, read-more}
+use Rattle.store.proofs.SpanLaws.{number-fits, probed, probe-done, never-refused, span-done, only-done, read-more}
 use Rattle.store.proofs.spans.read_span.Needs as need
 use Rattle.store.proofs.spans.read_span.Needs.{In-Continue-probe-span}
 
@@ -17,10 +17,8 @@ there g c = probe-done (g .S·SegmentStore .row (c .args .store .now)) (c .args 
 pub add-first : need.add-first
 add-first g c =
     let s = c .args .store .now in
-    let row = g .S·SegmentStore .row s in
     let f : c .args .first < 2 ^ 64 = omega arith in
-    let p = probe-front row (c .args .first) (c .loop-i .i) (length (c .args .buffer .now) / 512) (c .loop-i .kept .i-end) (there g (need.at·add-first g c .In-Continue-probe-span)) in
-    omega (arith, next-fits row (c .args .first) (c .loop-i .i) (g .S·SegmentStore .proper s) f p)
+    omega (arith, number-fits (g .S·SegmentStore .row s) (c .args .first) (c .loop-i .i) (length (c .args .buffer .now) / 512) (g .S·SegmentStore .proper s) f (c .loop-i .kept .i-end) (there g (need.at·add-first g c .In-Continue-probe-span)))
 
 pub returns-in-Break-of-file : need.returns-in-Break-of-file
 returns-in-Break-of-file g c =

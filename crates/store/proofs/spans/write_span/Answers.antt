@@ -6,10 +6,9 @@ use lib.ListN.{length}
 use Rattle.std.specs.declared.result.Result.the-variants.{Ok}
 use Rattle.std.proofs.shelf.Lists.{length-take, length-drop}
 use Rattle.store.specs.Faults.{named}
-use Rattle.store.specs.Rows.{Segment, goods}
+use Rattle.store.specs.Rows.{Segment}
 use Rattle.store.specs.Spans.{probe, put, spanAnswer, Wrote}
-use Rattle.store.proofs.Answering.{answer-goods}
-use Rattle.store.proofs.SpanLaws.{next-fits, probe-done, probe-front, never-refused, span-done, only-done, put-goods, put-more, put-wrote}
+use Rattle.store.proofs.SpanLaws.{number-fits, probe-done, never-refused-behind, span-done, only-done, put-more, put-wrote}
 use Rattle.store.proofs.spans.write_span.Needs as need
 use Rattle.store.proofs.spans.write_span.Needs.{In-Continue-probe-span}
 
@@ -19,23 +18,16 @@ there g c = probe-done (g .S·SegmentStore .row (c .args .store .now)) (c .args 
 pub add-first : need.add-first
 add-first g c =
     let s = c .args .store .now in
-    let row = g .S·SegmentStore .row s in
     let f : c .args .first < 2 ^ 64 = omega arith in
-    let p = probe-front row (c .args .first) (c .loop-i .i) (length (c .args .buffer .now) / 512) (c .loop-i .kept .i-end) (there g (need.at·add-first g c .In-Continue-probe-span)) in
-    omega (arith, next-fits row (c .args .first) (c .loop-i .i) (g .S·SegmentStore .proper s) f p)
+    omega (arith, number-fits (g .S·SegmentStore .row s) (c .args .first) (c .loop-i .i) (length (c .args .buffer .now) / 512) (g .S·SegmentStore .proper s) f (c .loop-i .kept .i-end) (there g (need.at·add-first g c .In-Continue-probe-span)))
 
 pub returns-in-Break-of-file : need.returns-in-Break-of-file
 returns-in-Break-of-file g c =
-    let row = g .S·SegmentStore .row (c .args .store .now) in
-    let row′ = g .S·SegmentStore .row (c .loop-i .store) in
-    let first = c .args .first in
     let b = c .args .buffer .now in
     let i = c .loop-i .i in
     let long : i * 512 + 512 ≤ length b = omega arith in
-    let t = there g (need.at·returns-in-Break-of-file g c .In-Continue-probe-span) in
-    let same : goods row′ ≡ goods row = ap goods (c .loop-i .inv .0) ∙ put-goods row first i b (probe-front row first i (length b / 512) (c .loop-i .kept .i-end) t) in
-    absurd (never-refused row (c .args .file) first (length b / 512) i _ (c .write .result) _ t (c .loop-i-test .taken) (simp (length-take, length-drop) (omega arith))
-    (c .write .ensures .value ∙ answer-goods row row′ (first + i) _ same) (c .in-Break-of-file .ensures tt))
+    absurd (never-refused-behind (g .S·SegmentStore .row (c .args .store .now)) (g .S·SegmentStore .row (c .loop-i .store)) (c .args .file) (c .args .first) (length b / 512) i _ b (c .write .result) _
+    (there g (need.at·returns-in-Break-of-file g c .In-Continue-probe-span)) (c .loop-i-test .taken) (c .loop-i .inv .0) (simp (length-take, length-drop) (omega arith)) (c .write .ensures .value) (c .in-Break-of-file .ensures tt))
 
 pub loop-i-again : need.loop-i-again
 loop-i-again g c =
