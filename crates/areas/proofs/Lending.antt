@@ -2,8 +2,8 @@
 use mathlib.Core.Path.{_≡_, refl, sym, ap, _∙_}
 use mathlib.Core.List.{List, [], _∷_}
 use mathlib.Core.Logic.{⊎-elim}
-use mathlib.Core.Bool.{Bool, true, false, _&&_}
-use Prim.Native.Nat.{ℕ, _+_, _-_, _*_, _/_, _<_, _≤_}
+use mathlib.Core.Bool.{Bool, true, false, cond, _&&_}
+use Prim.Native.Nat.{ℕ, zero, suc, _+_, _-_, _*_, _/_, _<_, _≤_}
 use native.Mathlib.Omega.{arith}
 use denote.Ref.{now}
 use lib.Dec.{eqb, leb}
@@ -14,9 +14,13 @@ use Rattle.std.proofs.shelf.Edits.{length-between, getD-between}
 use Rattle.std.proofs.shelf.Tests.{and-left, and-right, cases-bool, cond-both}
 use Rattle.areas.specs.declared.chained.ChainedArea.{ChainedArea}
 use Rattle.areas.specs.declared.index.Chain.{Chain}
-use Rattle.areas.specs.ChainedRows.{baseOf, nextOf, markOf, inPool, pageOk, has, leadsAlong, fitsPool, rowOf, keptLength, keptOf, keptPages, chainKept, flag}
+use Rattle.areas.specs.ChainedRows.{walk, pagesOf, baseOf, nextOf, markOf, inPool, pageOk, has, leadsAlong, fitsPool, rowOf, keptLength, keptOf, keptPages, chainKept, flag}
 use Rattle.areas.specs.Areas.{poolPages, poolRow, poolKept, usedBy, chainedRow, chainedFrame}
+use Rattle.std.specs.Options.{mapped, valueOr}
+use Rattle.std.specs.declared.option.Option.the-variants.{Some, None}
+use Rattle.areas.specs.PlainRows.{whole}
 use Rattle.areas.specs.Laws.{pool-some, pool-most}
+use Rattle.areas.proofs.Walks.{walk-bad}
 
 out : (a b c : Bool) → a ≡ false → ((a && b) && c) ≡ false
 out a b c h = and-left (a && b) c (and-left a b h)
@@ -70,6 +74,22 @@ module _ (m x ps : List ℕ) (l : length x ≡ length m) (e : keptPages x ps ≡
       stops : (a b c : Bool) → b ≡ false → ((a && b) && c) ≡ false
       stops a b c h = and-left (a && b) c (and-right a b h)
 
+  walk-same : (n p : ℕ) → walk x n p ≡ walk m n p
+  walk-same zero p = refl
+  walk-same (suc n) p =
+      ⊎-elim
+      (λ h. ap (λ b. cond b (cond (eqb (nextOf x p) 0) (Some (p ∷ [])) (mapped (λ ps. p ∷ ps) (walk x n (nextOf x p)))) None) (ok-same p)
+      ∙ ap (λ q. cond (pageOk m p) (cond (eqb q 0) (Some (p ∷ [])) (mapped (λ ps. p ∷ ps) (walk x n q))) None) (next-same p h)
+      ∙ ap (λ o. cond (pageOk m p) (cond (eqb (nextOf m p) 0) (Some (p ∷ [])) (mapped (λ ps. p ∷ ps) o)) None) (walk-same n (nextOf m p)))
+      (λ h. let o = out (inPool (length m / 516) p) (leb (markOf m p) 1) (eqb (getD m (baseOf p + 3) 0) 0) h in
+      walk-bad x (suc n) p (ok-same p ∙ o) ∙ sym (walk-bad m (suc n) p o))
+      (cases-bool (inPool (length m / 516) p))
+
+  -- every chain of the pool has the pages that it had
+  pages-same : (first : ℕ) → pagesOf x first ≡ pagesOf m first
+  pages-same first =
+      ap (λ n. cond (whole 516 n) (valueOr (walk x (n / 516) first) []) []) l ∙ ap (λ o. cond (whole 516 (length m)) (valueOr o []) []) (walk-same (length m / 516) first)
+
   fits-same : (size first : ℕ) (pages : List ℕ) → fitsPool x size first pages ≡ fitsPool m size first pages
   fits-same size first pages =
       let s = leads-same first pages in
@@ -122,10 +142,15 @@ module _ (m : List ℕ) (ch : Chain) (a : ChainedArea) (holds : now (a .memory) 
     used-after : usedBy a′ ≡ usedBy a
     used-after = let f = same-fits in let s = same-size in let p = same-pages in let n = same-length ∙ sym (ap length holds) in cc
 
+    same-pages-kept : keptPages (now (a′ .memory)) (usedBy a) ≡ keptPages m (usedBy a)
+    same-pages-kept = ap (λ u. keptPages (now (a′ .memory)) u) (sym used-after) ∙ ap (drop 1) same-kept
+
+    pub chains-after : (first : ℕ) → pagesOf (now (a′ .memory)) first ≡ pagesOf m first
+    chains-after first = pages-same m (now (a′ .memory)) (usedBy a) same-length same-pages-kept first
+
     still-fits : a′ .fits ≡ fitsPool (now (a′ .memory)) (ch .size) (ch .first) (vec-items (ch .pages))
     still-fits =
-        let k : keptPages (now (a′ .memory)) (usedBy a) ≡ keptPages m (usedBy a) = ap (λ u. keptPages (now (a′ .memory)) u) (sym used-after) ∙ ap (drop 1) same-kept in
-        same-fits ∙ fits ∙ sym (fits-same m (now (a′ .memory)) (usedBy a) same-length k (ch .size) (ch .first) (vec-items (ch .pages)))
+        same-fits ∙ fits ∙ sym (fits-same m (now (a′ .memory)) (usedBy a) same-length same-pages-kept (ch .size) (ch .first) (vec-items (ch .pages)))
 
     pool-used : poolPages (now (a′ .memory)) ch ≡ usedBy a′
     pool-used = let f = still-fits in let s = same-size ∙ size-is in let p = same-pages ∙ pages-are in cc

@@ -15,8 +15,11 @@ use Rattle.std.specs.declared.option.Option.{Option}
 use Rattle.std.specs.declared.option.Option.the-variants.{Some, None}
 use Rattle.std.proofs.shelf.Tests.{and-parts, and-from, and-left, cond-both, eq-eqb, cond-true, cond-false, cases-bool, eqb-true, eqb-false, or-from, or-parts, not-true, not-from-false, lt-ltb, le-leb}
 use Rattle.store.specs.declared.faults.Refusal.the-variants.{UnfitMemory, BrokenChain}
-use Rattle.areas.specs.ChainedRows.{nextOf, inPool, pageOk, Ends, last, more, walk, has, once, indexed, chainLook, pagesOf, leadsAlong, fitsPool, rowOf, usedPages, Looked, Made}
+use Rattle.areas.specs.ChainedRows.{nextOf, inPool, pageOk, Ends, last, more, walk, has, once, indexed, chainLook, pagesOf, leadsAlong, fitsPool, rowOf, usedPages, Looked}
 use Rattle.areas.specs.Laws.{pool-some, pool-most, whole-means}
+use Rattle.std.specs.Of.Vec.{vec-items}
+use Rattle.areas.specs.declared.index.Chain.{Chain}
+use Rattle.areas.specs.Areas.{Made}
 use Rattle.areas.proofs.Walks.{page-in, walk-bad, pages-once, ends-once, walk-ends, walk-suc-last, walk-suc-more, pages-at}
 
 without : ℕ → List ℕ → List ℕ
@@ -179,11 +182,16 @@ used-same m size first (p ∷ ps) s e =
     (and-from (fitsPool m size first (p ∷ ps)) (eqb size (length m)) (pages-fit m size first p ps s e) (eq-eqb size (length m) s))
 
 -- an area made with an index
-pub area-made : (m : List ℕ) (fits : Bool) (size first : ℕ) (pages : List ℕ) → fits ≡ fitsPool m size first pages → Made m size first pages (rowOf m (usedPages fits size (length m) pages))
-area-made m fits size first pages f = record {
-  same = λ s e. ap (λ b. rowOf m (usedPages b size (length m) pages)) f ∙ ap (rowOf m) (used-same m size first pages s e ∙ sym e);
-  other = λ ne. ⊎-elim
-      (λ t. absurd (ne (fit-pages m size first pages t)))
-      (λ t. ap (rowOf m) (cond-false (fits && eqb size (length m)) pages [] (and-left fits (eqb size (length m)) (f ∙ t))))
-      (cases-bool (fitsPool m size first pages));
-}
+pub area-made : (m : List ℕ) (ch : Chain) (fits : Bool) → fits ≡ fitsPool m (ch .size) (ch .first) (vec-items (ch .pages))
+    → Made ch m (rowOf m (usedPages fits (ch .size) (length m) (vec-items (ch .pages))))
+area-made m ch fits f =
+    let size = ch .size in
+    let first = ch .first in
+    let pages = vec-items (ch .pages) in
+    record {
+      same = λ l. ap (λ b. rowOf m (usedPages b size (length m) pages)) f ∙ ap (rowOf m) (used-same m size first pages (l .0) (l .1) ∙ sym (l .1));
+      other = λ ne. ⊎-elim
+          (λ t. absurd (ne (fit-pages m size first pages t)))
+          (λ t. ap (rowOf m) (cond-false (fits && eqb size (length m)) pages [] (and-left fits (eqb size (length m)) (f ∙ t))))
+          (cases-bool (fitsPool m size first pages));
+    }

@@ -129,8 +129,3 @@ pub record PagePlaced (m ps : List ℕ) (i size start : ℕ) : Type 0 where
 pub record Looked (m : List ℕ) (first : ℕ) (r : Answer) : Type 0 where
   pub accepts : (ps : List ℕ) → whole 516 (length m) ≡ true → Ends m first ps → (r ≡ Ok tt) × (pagesOf m first ≡ ps)
   pub only : r ≡ Ok tt → (ps : List ℕ) × (Ends m first ps × (pagesOf m first ≡ ps) × (once (length m / 516) ps ≡ true))
-
--- an area made over a pool with an index: the row of the pool's chain where the index lists its pages, else one bad segment
-pub record Made (m : List ℕ) (size first : ℕ) (pages : List ℕ) (row : List Segment) : Type 0 where
-  pub same : size ≡ length m → pagesOf m first ≡ pages → row ≡ chainRow m first
-  pub other : ((size ≡ length m) × (pagesOf m first ≡ pages) → ⊥) → row ≡ bad ∷ []

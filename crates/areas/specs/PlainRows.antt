@@ -1,7 +1,7 @@
 -- Segments that lie side by side in memory. Assumes nothing.
 use mathlib.Core.Path.{_≡_}
 use mathlib.Core.List.{List, [], _∷_, map}
-use mathlib.Core.Bool.{Bool, cond, _&&_}
+use mathlib.Core.Bool.{Bool, true, cond, _&&_}
 use Prim.Native.Nat.{ℕ, _+_, _*_, _/_, _%_, _≤_}
 use lib.Dec.{eqb, ltb, leb}
 use lib.ListN.{length, getD}
@@ -36,3 +36,9 @@ pub record Placed (memory : List ℕ) (row : List Segment) (i size start : ℕ) 
   pub inside : start + 512 ≤ length memory
   pub allowed : answer row i size ≡ Ok tt
   pub holds : getD row i bad ≡ good (bytesFrom memory start)
+
+-- where the bytes of segment i of a plain area begin
+pub record PlainPlaced (memory : List ℕ) (i size start : ℕ) : Type 0 where
+  pub begins : start ≡ i * 512
+  pub cut : whole 512 (length memory) ≡ true
+  pub placed : Placed memory (plainRow memory) i size start

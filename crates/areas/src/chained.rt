@@ -7,8 +7,8 @@ ghost use Rattle.std.specs.Of.Vec.{vec-items};
 ghost use Rattle.std.specs.Results.{Cases};
 ghost use Rattle.std.specs.declared.result.Result.the-variants.{Err};
 ghost use Rattle.store.specs.Rows.{answer};
-ghost use Rattle.areas.specs.ChainedRows.{chainLook, fitsPool, Looked, Made, PagePlaced};
-ghost use Rattle.areas.specs.Areas.{usedBy, chainedRow, chainedFrame, chained-proper};
+ghost use Rattle.areas.specs.ChainedRows.{chainLook, fitsPool, Looked, PagePlaced};
+ghost use Rattle.areas.specs.Areas.{Made, usedBy, chainedRow, chainedFrame, chained-proper};
 use super::index::Chain;
 use super::index::HEAD;
 use super::index::MARK;
@@ -50,7 +50,7 @@ impl<'a, 'c> ChainedArea<'a, 'c> {
         ensures lent { λ r. ⌜ name (r .memory) ≡ name (memory .entry) ⌝ }
         ensures index { λ r. ⌜ now (r .chain) ≡ now (chain .entry) ⌝ }
         ensures fits { λ r. ⌜ r .fits ≡ fitsPool (now (memory .entry)) (now (chain .entry) .size) (now (chain .entry) .first) (vec-items (now (chain .entry) .pages)) ⌝ }
-        ensures row { λ r. ⌜ Made (now (memory .entry)) (now (chain .entry) .size) (now (chain .entry) .first) (vec-items (now (chain .entry) .pages)) (chainedRow r) ⌝ }
+        ensures row { λ r. ⌜ Made (now (chain .entry)) (now (memory .entry)) (chainedRow r) ⌝ }
     {
         let fits = chain.fits(memory);
         ChainedArea {

@@ -1,14 +1,12 @@
 //! The plain area: segments that lie side by side in lent memory.
 ghost use denote.Ref.{now, name};
-ghost use mathlib.Core.Bool.{true};
 ghost use mathlib.Core.List.{[], _∷_};
 ghost use mathlib.Core.Path.{_≡_};
-ghost use Prim.Native.Nat.{_*_, _<_};
-ghost use lib.ListN.{length};
+ghost use Prim.Native.Nat.{_<_};
 ghost use Rattle.std.specs.Results.{Cases};
 ghost use Rattle.std.specs.declared.result.Result.the-variants.{Err};
 ghost use Rattle.store.specs.Rows.{answer};
-ghost use Rattle.areas.specs.PlainRows.{whole, plainRow, plainFrame, plainLook, Placed};
+ghost use Rattle.areas.specs.PlainRows.{whole, plainRow, plainFrame, plainLook, PlainPlaced};
 ghost use Rattle.areas.specs.Laws.{plain-proper};
 use store::SEGMENT;
 use store::SegmentStore;
@@ -33,32 +31,6 @@ pub(crate) fn is_whole(size: usize, n: usize) -> bool
     0 < n && n % size == 0 && n / size <= MOST
 }
 
-fn segments(memory: &[u8]) -> usize
-    ensures { λ r. ⌜ r ≡ length (plainRow (now (memory .entry))) ⌝ }
-{
-    if is_whole(SEGMENT, memory.len()) {
-        memory.len() / SEGMENT
-    } else {
-        1
-    }
-}
-
-/// Where the segment's bytes begin, for a buffer of `size` bytes.
-fn place(memory: &[u8], segment: usize, size: usize) -> Result<usize, Fault>
-    ensures { λ r. ⌜ Cases r (λ start. (start ≡ segment * 512) × (whole 512 (length (now (memory .entry))) ≡ true) × Placed (now (memory .entry)) (plainRow (now (memory .entry))) segment size start) (λ f. answer (plainRow (now (memory .entry))) segment size ≡ Err f) ⌝ }
-{
-    if size != SEGMENT {
-        return Err(Refusal::WrongBuffer.fault());
-    }
-    if segment >= segments(memory) {
-        return Err(Refusal::NoSegment(segment).fault());
-    }
-    if !is_whole(SEGMENT, memory.len()) {
-        return Err(Refusal::BadSegment(segment).fault());
-    }
-    Ok(segment * SEGMENT)
-}
-
 impl<'a> PlainArea<'a> {
     /// Whether the memory is from 1 to 65,535 whole segments.
     pub fn look(memory: &[u8]) -> Result<(), Fault>
@@ -78,10 +50,20 @@ impl<'a> PlainArea<'a> {
         PlainArea { memory }
     }
 
+    /// Where the segment's bytes begin, for a buffer of `size` bytes.
     fn find(&self, segment: usize, size: usize) -> Result<usize, Fault>
-        ensures { λ r. ⌜ Cases r (λ start. (start ≡ segment * 512) × (whole 512 (length (now (now (self .entry) .memory))) ≡ true) × Placed (now (now (self .entry) .memory)) (plainRow (now (now (self .entry) .memory))) segment size start) (λ f. answer (plainRow (now (now (self .entry) .memory))) segment size ≡ Err f) ⌝ }
+        ensures { λ r. ⌜ Cases r (λ start. PlainPlaced (now (now (self .entry) .memory)) segment size start) (λ f. answer (plainRow (now (now (self .entry) .memory))) segment size ≡ Err f) ⌝ }
     {
-        place(self.memory, segment, size)
+        if size != SEGMENT {
+            return Err(Refusal::WrongBuffer.fault());
+        }
+        if segment >= self.count() {
+            return Err(Refusal::NoSegment(segment).fault());
+        }
+        if !is_whole(SEGMENT, self.memory.len()) {
+            return Err(Refusal::BadSegment(segment).fault());
+        }
+        Ok(segment * SEGMENT)
     }
 }
 
@@ -95,7 +77,11 @@ pub impl SegmentStore for PlainArea<'_> as PlainAreaStore {
     ghost frame = { λ s. plainFrame (now (s .memory)) };
 
     fn count(&self) -> usize {
-        segments(self.memory)
+        if is_whole(SEGMENT, self.memory.len()) {
+            self.memory.len() / SEGMENT
+        } else {
+            1
+        }
     }
 
     fn read(&self, segment: usize, buffer: &mut [u8]) -> Result<(), Fault> {

@@ -37,7 +37,7 @@ pub enum Refusal {
     BadSegment(usize),
     /// 14: the memory is not 1 to 65,535 whole segments or pages.
     UnfitMemory,
-    /// 15: the chain leaves the pool, meets a page twice, or has a page with a wrong mark.
+    /// 15: the chain leaves the pool, meets a page twice, or has a wrong mark or zero byte.
     BrokenChain,
 }
 

@@ -1,4 +1,4 @@
-use mathlib.Core.Path.{_≡_, sym, ap, ap₂, _∙_}
+use mathlib.Core.Path.{_≡_, refl, sym, ap, ap₂, _∙_}
 use borrow.Author.Needs.{needs}
 use lib.ListN.{length}
 use Rattle.std.specs.declared.result.Result.the-variants.{Err}
@@ -9,6 +9,7 @@ use Rattle.store.proofs.SpanLaws.{only-refused}
 use Rattle.areas.specs.PlainRows.{plainRow, plainFrame}
 use Rattle.areas.specs.Areas.{poolRow}
 use Rattle.areas.proofs.Lending.{row-before}
+use Rattle.areas.proofs.Pool.{area-made}
 use Rattle.areas.proofs.Told.{plain-told}
 use Rattle.areas.proofs.lends.unchain.Needs as need
 
@@ -31,6 +32,7 @@ returns c =
       value = value;
       after = search needs;
       framed = search needs;
+      means = λ x. area-made x (c .args .chain .now) _ refl;
       refused = λ f d. let t = told f d in search needs;
       same = search needs;
     }

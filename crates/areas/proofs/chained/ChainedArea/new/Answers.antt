@@ -1,5 +1,4 @@
 use mathlib.Core.Path.{refl}
-use Rattle.std.specs.Of.Vec.{vec-items}
 use Rattle.areas.proofs.Pool.{area-made}
 use Rattle.areas.proofs.chained.ChainedArea.new.Needs as need
 
@@ -11,5 +10,5 @@ returns c =
       lent = refl;
       index = refl;
       fits = c .fits-fits .ensures;
-      row = area-made (c .args .memory .now) _ (ch .size) (ch .first) (vec-items (ch .pages)) (c .fits-fits .ensures);
+      row = area-made (c .args .memory .now) ch (c .fits-fits .result) (c .fits-fits .ensures);
     }

@@ -16,14 +16,14 @@ returns c =
     let m = c .args .self .now .memory .now in
     let i = c .args .segment in
     let b = c .args .buffer .now in
-    let inside = q .2 .inside in
-    let h : i < length m / 512 = omega (arith, q .0, inside) in
-    let e : _ ≡ putMid (i * 512) 512 m b = putMid-same _ (i * 512) _ 512 m m _ b (q .0) (omega arith) refl (c .copy-from-slice .ensures .after) in
-    let after : _ ≡ writeAfter (plainRow m) i b = ap plainRow e ∙ plain-after m b i (q .1) h (q .2 .fit) in
+    let inside = q .placed .inside in
+    let h : i < length m / 512 = omega (arith, q .begins, inside) in
+    let e : _ ≡ putMid (i * 512) 512 m b = putMid-same _ (i * 512) _ 512 m m _ b (q .begins) (omega arith) refl (c .copy-from-slice .ensures .after) in
+    let after : _ ≡ writeAfter (plainRow m) i b = ap plainRow e ∙ plain-after m b i (q .cut) h (q .placed .fit) in
     record {
-      value = sym (q .2 .allowed);
+      value = sym (q .placed .allowed);
       after = after;
       marks = ap goods after ∙ goods-kept (plainRow m) i b;
       kept = refl;
-      framed = ap plainFrame e ∙ plain-framed m b i (q .1) h (q .2 .fit);
+      framed = ap plainFrame e ∙ plain-framed m b i (q .cut) h (q .placed .fit);
     }
