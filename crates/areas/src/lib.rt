@@ -1,5 +1,7 @@
 //! The makes of a segment store: the plain area, and the chained area with its index.
 
+#![tactic(auto)]
+
 pub mod chained;
 pub mod index;
 pub mod lends;

@@ -2,6 +2,8 @@
 //! reads it back, and shows each refusal that a store can give. Then it brings the gyles
 //! that the text enters into key order, and finds those that it seeks.
 
+#![tactic(auto)]
+
 mod gyles;
 mod report;
 mod text;

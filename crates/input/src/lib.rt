@@ -1,3 +1,5 @@
 //! What the program makes of its input.
 
+#![tactic(auto)]
+
 pub mod names;

@@ -3,7 +3,7 @@ use Rattle.std.proofs.Common.{◌≡◌, ℕ, suc, ◌+◌, ◌-◌, ◌*◌, �
 use Rattle.std.proofs.ByRecursion.{All-from_get_or, All-take, All-drop}
 use Rattle.std.proofs.lemmas.Bool.{cases_lt}
 use Rattle.std.specs.Ordering.{is_lt, is_gt, is_eq, ordering_reverse}
-use Rattle.std.specs.List.{AllByRecursion as All}
+use Rattle.std.specs.List.{AllByRecursion}
 use Rattle.kinds.specs.declared.search.Place.{Place}
 use Rattle.kinds.specs.Laws.{Order, Key, Sizes, Laws}
 use Rattle.kinds.specs.Search.{key_at, key_in, held_in, Keyed, Ascends, Turn, below, not_above, FirstNotBelow, LastNotAbove, Looked, Found}
@@ -11,7 +11,7 @@ use Rattle.kinds.specs.Search.{key_at, key_in, held_in, Keyed, Ascends, Turn, be
 -- ---- where keys lie
 
 -- what is known of a slice of bytes
-pub bytes : (xs : List ℕ) → ((i : ℕ) → Fits w8 (get_or xs i 0)) → All (λ x. x < 256) xs
+pub bytes : (xs : List ℕ) → ((i : ℕ) → Fits w8 (get_or xs i 0)) → AllByRecursion (λ x. x < 256) xs
 bytes xs f = All-from_get_or (λ x. x < 256) xs 0 (λ i h. (f i).fits)
 
 -- record i begins and ends within a block that holds more than i
@@ -20,7 +20,7 @@ record_inside i size p len h k =
     let m : suc i * size ≤ len / size * size = mul-le-mul_right size h in
     omega (arith, m, suc-mul i size, div-mul-le_self len size)
 
-pub block_keyed : (p size : ℕ) (block : List ℕ) → All (λ x. x < 256) block → p ≤ size → Keyed p (key_at p size block) (length block / size)
+pub block_keyed : (p size : ℕ) (block : List ℕ) → AllByRecursion (λ x. x < 256) block → p ≤ size → Keyed p (key_at p size block) (length block / size)
 block_keyed p size block h k i l =
     let e = record_inside i size p (length block) l k in
     (simp (length-take, length-drop) (omega (arith, e)), All-take (λ x. x < 256) p (drop (i * size) block) (All-drop (λ x. x < 256) (i * size) block h))

@@ -3,7 +3,7 @@ use Rattle.std.specs.Prelude.{◌≡◌, ℕ, ◌<◌, ◌≤◌, List, length}
 use Rattle.std.specs.declared.cmp.Ordering.TheVariants.{Less, Equal}
 use Rattle.std.specs.declared.cmp.Ordering.{Ordering}
 use Rattle.std.specs.Ordering.{ordering_reverse}
-use Rattle.std.specs.List.{AllByRecursion as All}
+use Rattle.std.specs.List.{AllByRecursion}
 
 -- whether the first of two keys is below, the same or above
 abbrev pub Order : Type 0
@@ -11,7 +11,7 @@ Order = List ℕ → List ℕ → Ordering
 
 -- a key of p bytes
 abbrev pub Key : ℕ → List ℕ → Type 0
-Key p k = (length k ≡ p) × All (λ x. x < 256) k
+Key p k = (length k ≡ p) × AllByRecursion (λ x. x < 256) k
 
 -- the sizes of records of l bytes that begin with a key of p bytes
 pub record Sizes (l p : ℕ) : Type 0 where

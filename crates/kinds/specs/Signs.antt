@@ -2,14 +2,14 @@
 use Rattle.std.specs.Prelude.{◌≡◌, ℕ, zero, suc, ◌+◌, ◌-◌, ◌*◌, ◌/◌, ◌%◌, ◌^◌, ◌<◌, Bool, true, cond, List, [], ◌∷◌, ℤ, pos, negsuc, nat_lt, slice_index, slice_index_or, refl}
 use Rattle.std.proofs.Common.{sym, ap, ap₂, ◌∙◌, pow-suc, arith}
 use Rattle.std.proofs.lemmas.Bool.Decides.{nat_tests}
-use Rattle.std.specs.List.{AllByRecursion as All}
+use Rattle.std.specs.List.{AllByRecursion}
 use Rattle.kinds.specs.Fields.{unsigned_of, twos, by_signed}
 use Rattle.kinds.specs.Weights.{weighed}
 use Rattle.kinds.specs.Lexical.{lex, digits, lex-digits}
 use Rattle.std.specs.Ordering.{nat_cmp, int_cmp}
 
 abbrev pub Bytes : List ℕ → Type 0
-Bytes k = All (λ x. x < 256) k
+Bytes k = AllByRecursion (λ x. x < 256) k
 
 pub byte_lt : (k : List ℕ) → Bytes k → (i : ℕ) → slice_index k i < 256
 byte_lt [] h i = omega arith

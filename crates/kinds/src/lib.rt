@@ -1,4 +1,6 @@
 //! Record kinds: the sizes of their records, the order of their keys, and searches by that order.
+#![tactic(auto)]
+
 ghost use Rattle.std.specs.Prelude.{◌≡◌, ℕ};
 ghost use Rattle.kinds.specs.Laws.{Order, Sizes, Laws};
 

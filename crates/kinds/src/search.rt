@@ -32,15 +32,15 @@ fn middle(low: usize, high: usize) -> usize
 
 /// How many whole records a block has. Each is the kind's length and two bytes more.
 fn held<K: RecordKind>(block: &[u8]) -> usize
-    ensures { result ≡ held_in record_length block.now }
+    ensures { result ≡ held_in K.record_length block.now }
 {
     block.len() / (K::record_len() + 2)
 }
 
 /// The key of record `i`, as the part of the block where it lies.
 fn key_of<K: RecordKind>(block: &[u8], i: usize) -> &[u8]
-    requires { i < held_in record_length block.now }
-    ensures { result.now ≡ key_in record_length key_length block.now i }
+    requires { i < held_in K.record_length block.now }
+    ensures { result.now ≡ key_in K.record_length K.key_length block.now i }
 {
     let start = i * (K::record_len() + 2);
     &block[start..start + K::key_len()]
@@ -48,7 +48,7 @@ fn key_of<K: RecordKind>(block: &[u8], i: usize) -> &[u8]
 
 /// The place of the first record whose key is not below `key`.
 fn first_not_below<K: RecordKind>(block: &[u8], key: &[u8]) -> usize
-    ensures { Turn (below order (key_in record_length key_length block.now) key.now) (held_in record_length block.now) result }
+    ensures { Turn (below K.order (key_in K.record_length K.key_length block.now) key.now) (held_in K.record_length block.now) result }
 {
     let mut low = 0;
     let mut high = held::<K>(block);
@@ -67,8 +67,8 @@ fn first_not_below<K: RecordKind>(block: &[u8], key: &[u8]) -> usize
 /// place of the first whose key is not below it, and whether it is the same. Bytes behind the last
 /// whole record mean nothing.
 pub fn find<K: RecordKind>(block: &[u8], key: &[u8]) -> Place
-    ensures looked { Looked order (key_in record_length key_length block.now) (held_in record_length block.now) key.now result }
-    ensures found { length key.now ≡ key_length → Ascends order (key_in record_length key_length block.now) (held_in record_length block.now) → Found order (key_in record_length key_length block.now) (held_in record_length block.now) key.now result }
+    ensures looked { Looked K.order (key_in K.record_length K.key_length block.now) (held_in K.record_length block.now) key.now result }
+    ensures found { length key.now ≡ K.key_length → Ascends K.order (key_in K.record_length K.key_length block.now) (held_in K.record_length block.now) → Found K.order (key_in K.record_length K.key_length block.now) (held_in K.record_length block.now) key.now result }
 {
     let at = first_not_below::<K>(block, key);
     let same = at < held::<K>(block) && K::compare(key_of::<K>(block, at), key).is_eq();
@@ -77,7 +77,7 @@ pub fn find<K: RecordKind>(block: &[u8], key: &[u8]) -> Place
 
 /// The place of the first entry whose key bound is above `key`.
 fn first_above<K: RecordKind>(entries: &[Entry], key: &[u8]) -> usize
-    ensures { Turn (not_above order (bound_at key_length entries.now) key.now) (length entries.now) result }
+    ensures { Turn (not_above K.order (bound_at K.key_length entries.now) key.now) (length entries.now) result }
 {
     let p = K::key_len();
     let mut low = 0;
@@ -96,8 +96,8 @@ fn first_above<K: RecordKind>(entries: &[Entry], key: &[u8]) -> usize
 
 /// The place of the last entry whose key bound is not above `key`, or else the first place.
 pub fn last_not_above<K: RecordKind>(entries: &[Entry], key: &[u8]) -> usize
-    ensures turn { (t : ℕ) × Turn (not_above order (bound_at key_length entries.now) key.now) (length entries.now) t × (result ≡ t - 1) }
-    ensures last { length key.now ≡ key_length → Keyed key_length (bound_at key_length entries.now) (length entries.now) → Ascends order (bound_at key_length entries.now) (length entries.now) → LastNotAbove order (bound_at key_length entries.now) (length entries.now) key.now result }
+    ensures turn { (t : ℕ) × Turn (not_above K.order (bound_at K.key_length entries.now) key.now) (length entries.now) t × (result ≡ t - 1) }
+    ensures last { length key.now ≡ K.key_length → Keyed K.key_length (bound_at K.key_length entries.now) (length entries.now) → Ascends K.order (bound_at K.key_length entries.now) (length entries.now) → LastNotAbove K.order (bound_at K.key_length entries.now) (length entries.now) key.now result }
 {
     first_above::<K>(entries, key).saturating_sub(1)
 }

@@ -1,5 +1,7 @@
 //! Examples of kinds, searches and sorting, and a kind that somebody else adds.
 
+#![tactic(auto)]
+
 pub mod casks;
 #[cfg(test)]
 mod orders;

@@ -1,5 +1,7 @@
 //! Segment stores: a numbered row of segments, each good with 512 bytes or bad, behind three
 //! calls. `spans` has what files do with them: several segments, one behind another.
+#![tactic(auto)]
+
 ghost use Rattle.std.specs.Borrow.{GName};
 ghost use Rattle.std.specs.Prelude.{◌≡◌, ℕ, List, length};
 ghost use Rattle.store.specs.Rows.{Segment, Proper, goods, answer, read_after, write_after};

@@ -1,5 +1,7 @@
 //! Examples of stores, areas and spans: each refusal, and which comes first.
 
+#![tactic(auto)]
+
 #[cfg(test)]
 mod areas_refuse;
 #[cfg(test)]

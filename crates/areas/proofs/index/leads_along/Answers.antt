@@ -7,10 +7,10 @@ pub returns-then-listed-page : goal.returns-then-listed-page
 returns-then-listed-page c =
     sym (leads_other c.args.memory.now c.args.pages.now c.loop-listed.page c.loop-listed.listed-index c.loop-listed-test.true c.if-listed-page.true) ∙ c.loop-listed.invariant
 
-pub returns-in-default : goal.returns-in-default
-returns-in-default c =
+pub returns-in_default : goal.returns-in_default
+returns-in_default c =
     let m = c.args.memory.now in
-    sym (leads_bad m c.args.pages.now c.loop-listed.page c.loop-listed.listed-index c.loop-listed-test.true (step_off m c.loop-listed.page c.in-default.ensures)) ∙ c.loop-listed.invariant
+    sym (leads_bad m c.args.pages.now c.loop-listed.page c.loop-listed.listed-index c.loop-listed-test.true (step_off m c.loop-listed.page c.in_default.ensures)) ∙ c.loop-listed.invariant
 
 pub loop-listed-preserved : goal.loop-listed-preserved
 loop-listed-preserved c =

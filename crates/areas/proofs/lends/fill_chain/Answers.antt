@@ -15,8 +15,8 @@ returns c =
     let m = c.args.pool.now in
     let ch = c.args.chain.now in
     let n = c.new-area.ensures in
-    let w = c.write-span.ensures in
-    let a' = c.write-span.new.store in
+    let w = c.write_span.ensures in
+    let a' = c.write_span.new.store in
     let first = c.args.first in
     let b = c.args.buffer.now in
     let r = row_before m ch c.new-area.result n.holds n.index n.fits in
@@ -24,7 +24,7 @@ returns c =
     row_after m ch c.new-area.result n.holds n.index n.fits a' w.framed ∙ w.after ∙ ap (λ row. write_span_after row first b) r in
     let kept : pool_kept a'.memory.now ch ≡ pool_kept m ch = kept_after m ch c.new-area.result n.holds n.index n.fits a' w.framed in
     let value = w.value ∙ ap (λ row. named c.args.file (span_answer row first (length b))) r in
-    let told : (f : Fault) → c.write-span.result ≡ Err f → a'.memory.now ≡ m = λ f d.
+    let told : (f : Fault) → c.write_span.result ≡ Err f → a'.memory.now ≡ m = λ f d.
     pool_unchanged m a'.memory.now ch (same_length m ch c.new-area.result n.holds n.index n.fits a' w.framed) (pool_same m ch c.new-area.result n.holds n.index n.fits a' w.framed)
     (after ∙ only_refused c.args.file (span_answer (pool_row m ch) first (length b)) f _ (pool_row m ch) (sym d ∙ value)) kept in
     let chains : (p : ℕ) → pages_from a'.memory.now p ≡ pages_from m p = λ p. chains_after m ch c.new-area.result n.holds n.index n.fits a' w.framed p in

@@ -12,13 +12,13 @@ returns-then-at-held g c =
     let met = g.met.K.RecordKind in
     let block = c.args.block.now in
     let key = c.args.key.now in
-    let r : Place = record { at = c.first-not-below-at.result; same = c.is-eq-same.result } in
-    let o : c.compare.result ≡ m.order (key_in m.record_length m.key_length block r.at) key = c.compare.ensures ∙ ap (λ k. m.order k key) c.key-of.ensures in
+    let r : Place = record { at = c.first_not_below-at.result; same = c.is_eq-same.result } in
+    let o : c.compare.result ≡ m.order (key_in m.record_length m.key_length block r.at) key = c.compare.ensures ∙ ap (λ k. m.order k key) c.key_of.ensures in
     let looked : Looked m.order (key_in m.record_length m.key_length block) (held_in m.record_length block) key r = record {
-      turn = c.first-not-below-at.ensures;
-      same = (λ t. (omega (arith, c.held.ensures), sym o ∙ equal_from c.compare.result (sym c.is-eq-same.ensures ∙ t)), λ h. c.is-eq-same.ensures ∙ ap is_eq (o ∙ h.1));
+      turn = c.first_not_below-at.ensures;
+      same = (λ t. (omega (arith, c.held.ensures), sym o ∙ equal_from c.compare.result (sym c.is_eq-same.ensures ∙ t)), λ h. c.is_eq-same.ensures ∙ ap is_eq (o ∙ h.1));
     } in
-    record { looked = looked; found = found_in m.record_length m.key_length m.order met.sizes met.lawful block key c.type-inv.block c.type-inv.key r looked }
+    record { looked = looked; found = found_in m.record_length m.key_length m.order met.sizes met.lawful block key c.type_inv.block c.type_inv.key r looked }
 
 pub returns-else-at-held : goal.returns-else-at-held
 returns-else-at-held g c =
@@ -26,10 +26,10 @@ returns-else-at-held g c =
     let met = g.met.K.RecordKind in
     let block = c.args.block.now in
     let key = c.args.key.now in
-    let r : Place = record { at = c.first-not-below-at.result; same = ltb c.first-not-below-at.result c.held.result } in
+    let r : Place = record { at = c.first_not_below-at.result; same = ltb c.first_not_below-at.result c.held.result } in
     let none : r.same ≡ false = le-ltb r.at c.held.result c.if-at-held.false in
     let looked : Looked m.order (key_in m.record_length m.key_length block) (held_in m.record_length block) key r = record {
-      turn = c.first-not-below-at.ensures;
+      turn = c.first_not_below-at.ensures;
       same = (λ t. absurd (true≢false (sym t ∙ none)), λ h. absurd (omega (arith, h.0, c.held.ensures)));
     } in
-    record { looked = looked; found = found_in m.record_length m.key_length m.order met.sizes met.lawful block key c.type-inv.block c.type-inv.key r looked }
+    record { looked = looked; found = found_in m.record_length m.key_length m.order met.sizes met.lawful block key c.type_inv.block c.type_inv.key r looked }

@@ -9,7 +9,7 @@ returns g c =
     let entries = c.args.entries.now in
     let key = c.args.key.now in
     record {
-      turn = (c.first-above.result, c.first-above.ensures, c.saturating-sub.ensures);
-      last = λ l keyed up. last_not_above m.key_length m.order g.met.K.RecordKind.lawful (bound_at m.key_length entries) (length entries) keyed up key (l, bytes key c.type-inv.key)
-          c.first-above.result c.saturating-sub.result c.first-above.ensures c.saturating-sub.ensures;
+      turn = (c.first_above.result, c.first_above.ensures, c.saturating_sub.ensures);
+      last = λ l keyed up. last_not_above m.key_length m.order g.met.K.RecordKind.lawful (bound_at m.key_length entries) (length entries) keyed up key (l, bytes key c.type_inv.key)
+          c.first_above.result c.saturating_sub.result c.first_above.ensures c.saturating_sub.ensures;
     }

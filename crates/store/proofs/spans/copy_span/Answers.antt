@@ -4,30 +4,30 @@ use Rattle.store.specs.Rows.{Segment, bad, bytes_of, answer}
 use Rattle.store.specs.Spans.{span, probe, put, copy_answer, Wrote}
 use Rattle.store.proofs.SpanLaws.{number_fits, probed, probe_done, never_refused, never_refused_behind, only_done, put_more, put_wrote, length-span, span_at, copy_asked}
 use Rattle.store.proofs.spans.copy_span.Goals as goal
-use Rattle.store.proofs.spans.copy_span.Goals.{In-ok-probe-span, In-ok-probe-span-2}
+use Rattle.store.proofs.spans.copy_span.Goals.{In_ok-probe_span, In_ok-probe_span-2}
 
-from_there : (g : _) (c : In-ok-probe-span g) → probe (g.S.SegmentStore.row c.args.from.now) c.args.first c.args.n ≡ Ok tt
-from_there g c = probe_done (g.S.SegmentStore.row c.args.from.now) c.args.file c.args.first c.args.n _ c.in-ok-probe-span.ensures
+from_there : (g : _) (c : In_ok-probe_span g) → probe (g.S.SegmentStore.row c.args.from.now) c.args.first c.args.n ≡ Ok tt
+from_there g c = probe_done (g.S.SegmentStore.row c.args.from.now) c.args.file c.args.first c.args.n _ c.in_ok-probe_span.ensures
 
-to_there : (g : _) (c : In-ok-probe-span-2 g) → probe (g.T.SegmentStore.row c.args.to.now) c.args.first c.args.n ≡ Ok tt
-to_there g c = probe_done (g.T.SegmentStore.row c.args.to.now) c.args.file c.args.first c.args.n _ c.in-ok-probe-span-2.ensures
+to_there : (g : _) (c : In_ok-probe_span-2 g) → probe (g.T.SegmentStore.row c.args.to.now) c.args.first c.args.n ≡ Ok tt
+to_there g c = probe_done (g.T.SegmentStore.row c.args.to.now) c.args.file c.args.first c.args.n _ c.in_ok-probe_span-2.ensures
 
-pub overflow-add-first : goal.overflow-add-first
-overflow-add-first g c =
+pub overflow_add-first : goal.overflow_add-first
+overflow_add-first g c =
     let s = c.args.from.now in
     let f : c.args.first < 2 ^ 64 = omega arith in
-    omega (arith, number_fits (g.S.SegmentStore.row s) c.args.first c.loop-i.i c.args.n (g.S.SegmentStore.proper s) f c.loop-i.auto.i-end (from_there g (goal.at.overflow-add-first g c).In-ok-probe-span))
+    omega (arith, number_fits (g.S.SegmentStore.row s) c.args.first c.loop-i.i c.args.n (g.S.SegmentStore.proper s) f c.loop-i.auto.i-end (from_there g (goal.at.overflow_add-first g c).In_ok-probe_span))
 
-pub returns-in-err-of-file : goal.returns-in-err-of-file
-returns-in-err-of-file g c =
+pub returns-in_err-of_file : goal.returns-in_err-of_file
+returns-in_err-of_file g c =
     absurd (never_refused (g.S.SegmentStore.row c.args.from.now) c.args.file c.args.first c.args.n c.loop-i.i _ c.read.result _
-    (from_there g (goal.at.returns-in-err-of-file g c).In-ok-probe-span) c.loop-i-test.true c.loop-i.invariant.0 c.read.ensures.value c.in-err-of-file.ensures)
+    (from_there g (goal.at.returns-in_err-of_file g c).In_ok-probe_span) c.loop-i-test.true c.loop-i.invariant.0 c.read.ensures.value c.in_err-of_file.ensures)
 
-pub returns-in-err-of-file-2 : goal.returns-in-err-of-file-2
-returns-in-err-of-file-2 g c =
+pub returns-in_err-of_file-2 : goal.returns-in_err-of_file-2
+returns-in_err-of_file-2 g c =
     let from = g.S.SegmentStore.row c.args.from.now in
     absurd (never_refused_behind (g.T.SegmentStore.row c.args.to.now) (g.T.SegmentStore.row c.loop-i.to) c.args.file c.args.first c.args.n c.loop-i.i _ (span from c.args.first c.args.n) c.write.result _
-    (to_there g (goal.at.returns-in-err-of-file-2 g c).In-ok-probe-span-2) c.loop-i-test.true c.loop-i.invariant.1 (c.read.auto.buffer ∙ c.loop-i.invariant.0) c.write.ensures.value c.in-err-of-file-2.ensures)
+    (to_there g (goal.at.returns-in_err-of_file-2 g c).In_ok-probe_span-2) c.loop-i-test.true c.loop-i.invariant.1 (c.read.auto.buffer ∙ c.loop-i.invariant.0) c.write.ensures.value c.in_err-of_file-2.ensures)
 
 pub loop-i-preserved : goal.loop-i-preserved
 loop-i-preserved g c =
@@ -35,8 +35,8 @@ loop-i-preserved g c =
     let row = g.S.SegmentStore.row s in
     let first = c.args.first in
     let i = c.loop-i.i in
-    let f = from_there g (goal.at.loop-i-preserved g c).In-ok-probe-span in
-    let t = to_there g (goal.at.loop-i-preserved g c).In-ok-probe-span-2 in
+    let f = from_there g (goal.at.loop-i-preserved g c).In_ok-probe_span in
+    let t = to_there g (goal.at.loop-i-preserved g c).In_ok-probe_span-2 in
     let n : length c.read.new.buffer ≡ 512 = c.read.auto.buffer ∙ c.loop-i.invariant.0 in
     let a : answer row (first + i) (length c.loop-i.segment) ≡ Ok tt = ap (answer row (first + i)) c.loop-i.invariant.0 ∙ probed row first c.args.n i f c.loop-i-test.true in
     let part = c.read.ensures.after ∙ only_done (answer row (first + i) (length c.loop-i.segment)) (bytes_of (get_or row (first + i) bad)) c.loop-i.segment a ∙ sym (span_at row first c.args.n i (g.S.SegmentStore.proper s) f c.loop-i-test.true) in (
@@ -55,8 +55,8 @@ returns g c =
     let first = c.args.first in
     let n = c.args.n in
     let i : c.loop-i.i ≡ n = omega arith in
-    let f = from_there g (goal.at.returns g c).In-ok-probe-span in
-    let t = to_there g (goal.at.returns g c).In-ok-probe-span-2 in
+    let f = from_there g (goal.at.returns g c).In_ok-probe_span in
+    let t = to_there g (goal.at.returns g c).In_ok-probe_span-2 in
     let d : copy_answer from to first n ≡ Ok tt = copy_asked from to first n f ∙ t in
     let e : g.T.SegmentStore.row c.loop-i.to ≡ put to first n (span from first n) = c.loop-i.invariant.1 ∙ ap (λ k. put to first k (span from first n)) i in
     record {

@@ -19,8 +19,8 @@ page c =
     let a = c.args.self.now in
     page_of a.memory.now a.fits a.chain.now.size (vec_items a.chain.now.pages) c.args.segment _ a.chain.now.sound (omega (arith, c.len.ensures, c.if-segment-len.false)) c.index.ensures
 
-pub overflow-sub-base : goal.overflow-sub-base
-overflow-sub-base c = pool_some _ _ (page (goal.at.overflow-sub-base c).After-index).1
+pub overflow_sub-base : goal.overflow_sub-base
+overflow_sub-base c = pool_some _ _ (page (goal.at.overflow_sub-base c).After-index).1
 
 pub bounds-self-base : goal.bounds-self-base
 bounds-self-base c = omega (arith, page_within c.args.self.now.memory.now c.index.result.now (page (goal.at.bounds-self-base c).After-index).1)

@@ -9,15 +9,15 @@ use Rattle.areas.proofs.chained.ChainedAreaSegmentStore.write.Goals as goal
 
 pub returns : goal.returns
 returns c =
-    let p = c.in-ok-start.ensures in
-    let start = c.in-ok-start.start in
+    let p = c.in_ok-start.ensures in
+    let start = c.in_ok-start.start in
     let a = c.args.self.now in
     let m = a.memory.now in
     let ch = a.chain.now in
     let ps = vec_items ch.pages in
     let b = c.args.buffer.now in
     let i = c.args.segment in
-    let e = put_mid_same start start _ 512 m m _ b refl (omega arith) refl c.copy-from-slice.ensures.after in
+    let e = put_mid_same start start _ 512 m m _ b refl (omega arith) refl c.copy_from_slice.ensures.after in
     let after : _ ≡ write_after (chained_row a) i b = ap (λ x. row_of x (used_pages a.fits ch.size (length x) ps)) e ∙ area_written m b a.fits ch.size ps i start ch.sound p in
     record {
       value = sym p.placed.allowed;

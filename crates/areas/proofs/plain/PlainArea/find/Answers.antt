@@ -4,19 +4,19 @@ use Rattle.areas.specs.Laws.{whole_means}
 use Rattle.areas.proofs.PlainParts.{plain_count, plain_at, plain_allowed}
 use Rattle.areas.proofs.plain.PlainArea.find.Goals as goal
 
-inside : (c : goal.Else-not-is-whole) → c.args.segment < length c.args.self.now.memory.now / 512
-inside c = omega (arith, c.count.ensures, plain_count c.args.self.now.memory.now (sym c.if-not-is-whole.ensures))
+inside : (c : goal.Else-not-is_whole) → c.args.segment < length c.args.self.now.memory.now / 512
+inside c = omega (arith, c.count.ensures, plain_count c.args.self.now.memory.now (sym c.if-not-is_whole.ensures))
 
-pub overflow-mul-result : goal.overflow-mul-result
-overflow-mul-result c =
+pub overflow_mul-result : goal.overflow_mul-result
+overflow_mul-result c =
     let h = inside c in
-    let w = whole_means 512 (length c.args.self.now.memory.now) (sym c.if-not-is-whole.ensures) in
+    let w = whole_means 512 (length c.args.self.now.memory.now) (sym c.if-not-is_whole.ensures) in
     omega arith
 
 pub returns : goal.returns
 returns c =
     let m = c.args.self.now.memory.now in
-    let w : whole 512 (length m) ≡ true = sym c.if-not-is-whole.ensures in
+    let w : whole 512 (length m) ≡ true = sym c.if-not-is_whole.ensures in
     let h = inside c in
     record {
       begins = refl;

@@ -5,20 +5,20 @@ use Rattle.std.specs.Str.Parse.{IsNumeral, without_leading_sign, signed_digits_v
 use Rattle.input.proofs.Strokes.{some_stroke, parted}
 use Rattle.input.proofs.names.GyleName.read.Goals as goal
 
-pub returns-in-default : goal.returns-in-default
-returns-in-default c name s = some_stroke c.args.text.now s.front s.back s.whole c.in-default.ensures.cases
+pub returns-in_default : goal.returns-in_default
+returns-in_default c name s = some_stroke c.args.text.now s.front s.back s.whole c.in_default.ensures.cases
 
-pub returns-in-default-parse : goal.returns-in-default-parse
-returns-in-default-parse c name s =
+pub returns-in_default-parse : goal.returns-in_default-parse
+returns-in_default-parse c name s =
     let found = c.in-Some.ensures.cases in
     let same = parted c.args.text.now s.front s.back s.whole s.year.0 found.0 found.1 found.2.0 found.2.1 in
-    c.in-default-parse.ensures.value.0 (subst (λ bs. IsNumeral 10 (without_leading_sign bs) × SFits w16 (signed_digits_value 10 bs)) (sym (found.3 ∙ same.0)) (s.year.0, s.year.1))
+    c.in_default-parse.ensures.value.0 (subst (λ bs. IsNumeral 10 (without_leading_sign bs) × SFits w16 (signed_digits_value 10 bs)) (sym (found.3 ∙ same.0)) (s.year.0, s.year.1))
 
-pub returns-in-default-parse-2 : goal.returns-in-default-parse-2
-returns-in-default-parse-2 c name s =
+pub returns-in_default-parse-2 : goal.returns-in_default-parse-2
+returns-in_default-parse-2 c name s =
     let found = c.in-Some.ensures.cases in
     let same = parted c.args.text.now s.front s.back s.whole s.year.0 found.0 found.1 found.2.0 found.2.1 in
-    c.in-default-parse-2.ensures.value.0 (subst (λ bs. IsNumeral 10 (without_leading_sign bs) × SFits w32 (signed_digits_value 10 bs)) (sym (found.4 ∙ same.1)) (s.number.0, s.number.1))
+    c.in_default-parse-2.ensures.value.0 (subst (λ bs. IsNumeral 10 (without_leading_sign bs) × SFits w32 (signed_digits_value 10 bs)) (sym (found.4 ∙ same.1)) (s.number.0, s.number.1))
 
 pub returns : goal.returns
 returns c =

@@ -14,4 +14,4 @@ returns-in-None c name =
     )
 
 pub returns-in-None-read : goal.returns-in-None-read
-returns-in-None-read c name = (c.in-None-read.ensures name, λ rest e s. c.in-default.ensures.cases rest e)
+returns-in-None-read c name = (c.in-None-read.ensures name, λ rest e s. c.in_default.ensures.cases rest e)
