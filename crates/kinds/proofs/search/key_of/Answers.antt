@@ -1,4 +1,4 @@
-use Rattle.std.proofs.Common.{◌+◌, ◌-◌, ◌*◌, ◌≤◌, length, arith}
+use Rattle.std.proofs.Common.{◌+◌, ◌*◌, ◌≤◌, length, arith}
 use Rattle.kinds.proofs.Places.{record_inside}
 use Rattle.kinds.proofs.search.key_of.Given as given
 use Rattle.kinds.proofs.search.key_of.Goals as goal
