@@ -9,7 +9,8 @@ ghost members and ghost imports): functions of the code, strings and stored outp
 import re
 from pathlib import Path
 
-# Names that a plain respelling would make the same as another, or the same as a function of the code.
+# Names that a plain respelling would make the same as another, or the same as a function or a method
+# of the code beside which they are read.
 CHOSEN = {
     "chain-kept": "chain_kept-put_mid",
     "kept-page": "kept_of-put_mid",

@@ -1,4 +1,4 @@
-//! What the program makes of its input.
+//! What the program reads of gyles in its input.
 
 #![tactic(auto)]
 

@@ -28,8 +28,11 @@ fn a_block_of_one_record(rt: HostRuntime) {
     there::<Gyles>(&rt, &block[0..34], &Gyles::key(-5, 7), 0);
     free::<Gyles>(&rt, &block[0..34], &Gyles::key(-5, 6), 0);
     free::<Gyles>(&rt, &block[0..34], &Gyles::key(-5, 8), 1);
-    // no whole record
-    free::<Gyles>(&rt, &block[0..33], &Gyles::key(-5, 7), 0);
+    assert_eq!(rt;
+        find::<Gyles>(&block[0..33], &Gyles::key(-5, 7)),
+        Place { at: 0, same: false },
+        "no whole record"
+    );
     free::<Gyles>(&rt, &[], &[], 0);
 }
 
@@ -55,8 +58,14 @@ fn a_full_block(rt: HostRuntime) {
         free::<Gyles>(&rt, &block, &Gyles::key(year - 1, 7), i as usize);
     }
     free::<Gyles>(&rt, &block, &Gyles::key(i16::MIN, i32::MIN), 0);
-    // two bytes are left over
-    free::<Gyles>(&rt, &block, &Gyles::key(i16::MAX, i32::MAX), 15);
+    assert_eq!(rt;
+        find::<Gyles>(&block, &Gyles::key(i16::MAX, i32::MAX)),
+        Place {
+            at: 15,
+            same: false
+        },
+        "two bytes are left over"
+    );
 }
 
 #[test]
@@ -109,16 +118,25 @@ fn a_table_of_one_entry(rt: HostRuntime) {
 #[test]
 fn a_table_of_four(rt: HostRuntime) {
     let table = [entry(-2), entry(0), entry(1), entry(2024)];
-    // below every bound
-    leads(&rt, &table, &Gyles::key(i16::MIN, 0), 0);
+    assert_eq!(rt;
+        last_not_above::<Gyles>(&table, &Gyles::key(i16::MIN, 0)),
+        0,
+        "below every bound"
+    );
     leads(&rt, &table, &Gyles::key(-2, -1), 0);
     leads(&rt, &table, &Gyles::key(-2, 0), 0);
     leads(&rt, &table, &Gyles::key(0, -1), 0);
     leads(&rt, &table, &Gyles::key(0, 0), 1);
     leads(&rt, &table, &Gyles::key(2023, i32::MAX), 2);
     leads(&rt, &table, &Gyles::key(2024, 0), 3);
-    // above every bound
-    leads(&rt, &table, &Gyles::key(i16::MAX, i32::MAX), 3);
-    // a part of a table
-    leads(&rt, &table[1..3], &Gyles::key(5, 5), 1);
+    assert_eq!(rt;
+        last_not_above::<Gyles>(&table, &Gyles::key(i16::MAX, i32::MAX)),
+        3,
+        "above every bound"
+    );
+    assert_eq!(rt;
+        last_not_above::<Gyles>(&table[1..3], &Gyles::key(5, 5)),
+        1,
+        "a part of a table"
+    );
 }
