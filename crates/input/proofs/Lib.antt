@@ -1,1 +1,2 @@
 pub mod Strokes
+pub mod Entries

@@ -1,6 +1,7 @@
 //! Gyles by name, as they stand in a text and in a key.
-ghost use Rattle.std.specs.Prelude.{◌≡◌, ◌+◌, ◌%◌, ◌<◌, length, drop, IfOk, Some, vec_len, MatchOption, OnOk};
-ghost use Rattle.input.specs.Names.{Spelled, written, Means};
+ghost use Rattle.std.specs.Prelude.{◌≡◌, ℕ, ◌<◌, List, ◌++◌, length, drop, IfOk, Some, MatchOption, OnOk};
+ghost use Rattle.input.specs.Names.{Spelled, written, Means, IsRecordOf, Enters};
+ghost use Rattle.std.specs.Str.Lines.{lines};
 ghost use Rattle.kinds.specs.Fields.{signed_of};
 
 use kinds::gyles::Gyles;
@@ -90,7 +91,7 @@ impl Line {
 
 /// Adds the record of a gyle: its key, and zeros.
 fn push_record(records: &mut Vec<u8>, name: GyleName) -> Result<(), AllocError>
-    ensures { OnOk result (vec_len records.new ≡ vec_len records.old + 32) }
+    ensures { OnOk result ((bytes : List ℕ) × (records.new.items ≡ records.old.items ++ bytes) × IsRecordOf name bytes) }
 {
     records.extend_from_slice(&name.key())?;
     records.extend_from_slice(&[0; 26])
@@ -98,7 +99,7 @@ fn push_record(records: &mut Vec<u8>, name: GyleName) -> Result<(), AllocError>
 
 /// The records of the gyles that a text enters, in the order of their lines.
 pub fn entered(heap: Global, text: &str) -> Result<Vec<u8>, AllocError>
-    ensures { IfOk result (λ records. vec_len records % 32 ≡ 0) }
+    ensures { IfOk result (λ records. Enters (lines text.now) records.items) }
 {
     let mut records = Vec::new(heap);
     for line in text.lines() {

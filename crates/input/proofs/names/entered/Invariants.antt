@@ -1,5 +1,6 @@
-use Rattle.std.proofs.Common.{◌≡◌, ◌%◌, vec_len}
+use Rattle.std.proofs.Common.{map, vec_items}
+use Rattle.input.specs.Names.{Enters}
 use Rattle.input.proofs.names.entered.Given as goal
 
 abbrev pub invariant-loop-line : goal.invariant-loop-line
-invariant-loop-line l = vec_len l.records % 32 ≡ 0
+invariant-loop-line l = Enters (map (λ x. x.now) l.yielded) (vec_items l.records)
