@@ -1,155 +1,50 @@
 -- What of a pool's memory is known once its area is let go. Assumes nothing.
-use Rattle.std.proofs.Common.{◌≡◌, ℕ, zero, suc, ◌+◌, ◌-◌, ◌*◌, ◌/◌, ◌<◌, ◌≤◌, Bool, true, false, cond, ◌&&◌, eqb, leb, List, [], ◌∷◌, length, get_or, drop, Some, None, vec_items, unwrap_or, sym, refl, ap, ◌∙◌, ⊎_elim, arith}
-use Rattle.std.proofs.lemmas.List.FromFn.{length-map-range_with_len, get_or-map-range_with_len}
-use Rattle.std.proofs.lemmas.List.Edits.{length-between, get_or-between}
-use Rattle.std.proofs.lemmas.Bool.{and_left, and_right, cases_Bool, cond_both}
-use Rattle.areas.specs.declared.chained.ChainedArea.{ChainedArea}
+use Rattle.std.proofs.Common.{◌≡◌, ℕ, Bool, true, false, cond, ◌&&◌, eqb, List, [], ◌∷◌, length, get_or, drop, if◌then◌else◌, vec_items, sym, refl, ap, ◌∙◌, subst}
+use Rattle.areas.specs.declared.chained.InPages.{InPages}
 use Rattle.areas.specs.declared.index.Chain.{Chain}
-use Rattle.areas.specs.ChainedRows.{walk, pages_from, base_of, next_of, mark_of, in_pool, page_ok, has, leads_through, fits_pool, row_of, kept_length, kept_of, kept_pages, chain_kept, flag}
-use Rattle.areas.specs.Areas.{pool_pages, pool_row, pool_kept, used_by, chained_row, chained_frame}
-use Rattle.std.specs.Option.{option_map}
 use Rattle.areas.specs.PlainRows.{whole}
-use Rattle.areas.specs.Laws.{pool_some, pool_most}
-use Rattle.areas.proofs.Walks.{walk_bad}
+use Rattle.areas.specs.ChainedRows.{pages_from, leads_through, fits_pool, row_of, used_pages, chain_kept}
+use Rattle.areas.specs.Areas.{Made, pool_pages, pool_row, pool_kept, chained_row, chained_frame}
+use Rattle.areas.proofs.Pool.{area_made}
+use Rattle.areas.proofs.Kept.{same_length, pages_same, fits_same}
+use Rattle.areas.proofs.Told.{pool_told}
 
-out : (a b c : Bool) → a ≡ false → ((a && b) && c) ≡ false
-out a b c h = and_left (a && b) c (and_left a b h)
+-- an area made over a pool with an index
+used_is : (m : List ℕ) (ch : Chain) → used_pages (fits_pool m ch.size ch.first (vec_items ch.pages)) ch.size (length m) (vec_items ch.pages) ≡ pool_pages m ch
+used_is m ch =
+    let pages = vec_items ch.pages in
+    let listed = leads_through m ch.first pages in
+    by (eqb ch.size (length m)) (whole 516 (length m)) listed pages
+  where
+    by : (a b l : Bool) (ps : List ℕ) → cond (((a && b) && l) && a) ps [] ≡ cond ((a && b) && l) ps []
+    by true true true ps = refl
+    by true true false ps = refl
+    by true false l ps = refl
+    by false b l ps = refl
 
--- the bytes that are kept of a page
-kept_byte : (m ps : List ℕ) (k j d : ℕ) → k < length m / 516 → j < kept_length m ps k → get_or (get_or (kept_pages m ps) k []) j d ≡ get_or m (k * 516 + j) d
-kept_byte m ps k j d l h =
-    ap (λ b. get_or b j d) (get_or-map-range_with_len (kept_of m ps) 0 (length m / 516) k k [] l (omega arith)) ∙ get_or-between m (k * 516) (k * 516 + kept_length m ps k) j d (omega arith)
+pub area_row : (m : List ℕ) (ch : Chain) (pages : List ℕ) → pages ≡ pool_pages m ch → Made ch m (row_of m pages)
+area_row m ch pages e =
+    subst (λ ps. Made ch m (row_of m ps)) (used_is m ch ∙ sym e) (area_made m ch (fits_pool m ch.size ch.first (vec_items ch.pages)) refl)
 
-kept_four : (m ps : List ℕ) (k : ℕ) → 4 ≤ kept_length m ps k
-kept_four m ps k = cond_both (has (k + 1) ps && eqb (mark_of m (k + 1)) 0) 4 516 (λ n. 4 ≤ n) (λ _. omega arith) (λ _. omega arith)
+-- and its memory afterwards
+pub record Afterwards (m : List ℕ) (ch : Chain) (c : InPages) (m' : List ℕ) : Type 0 where
+  pub used : pool_pages m' ch ≡ pool_pages m ch
+  pub row : pool_row m' ch ≡ chained_row c m'
+  pub kept : pool_kept m' ch ≡ pool_kept m ch
+  pub told : pool_row m' ch ≡ pool_row m ch → m' ≡ m
+  pub chains : (first : ℕ) → pages_from m' first ≡ pages_from m first
 
--- two memories of which the same is kept: their pages have the same leading bytes
-module _ (m x ps : List ℕ) (l : length x ≡ length m) (e : kept_pages x ps ≡ kept_pages m ps) where
-  pub kept_same : (k j d : ℕ) → k < length m / 516 → j < kept_length x ps k → j < kept_length m ps k → get_or x (k * 516 + j) d ≡ get_or m (k * 516 + j) d
-  kept_same k j d lt a b = sym (kept_byte x ps k j d (omega arith) a) ∙ ap (λ ks. get_or (get_or ks k []) j d) e ∙ kept_byte m ps k j d lt b
-
-  pub lead_same : (p j : ℕ) → in_pool (length m / 516) p ≡ true → j < 4 → get_or x (base_of p + j) 0 ≡ get_or m (base_of p + j) 0
-  lead_same p j h lt =
-      let p0 = pool_some (length m / 516) p h in
-      let p1 = pool_most (length m / 516) p h in
-      kept_same (p - 1) j 0 (omega arith) (omega (arith, kept_four x ps (p - 1))) (omega (arith, kept_four m ps (p - 1)))
-
-  next_same : (p : ℕ) → in_pool (length m / 516) p ≡ true → next_of x p ≡ next_of m p
-  next_same p h =
-      let z : base_of p + 0 ≡ base_of p = omega arith in
-      let a : get_or x (base_of p) 0 ≡ get_or m (base_of p) 0 = ap (λ i. get_or x i 0) (sym z) ∙ lead_same p 0 h (omega arith) ∙ ap (λ i. get_or m i 0) z in
-      let b = lead_same p 1 h (omega arith) in
-      cc
-
-  ok_same : (p : ℕ) → page_ok x p ≡ page_ok m p
-  ok_same p =
-      let n : in_pool (length x / 516) p ≡ in_pool (length m / 516) p = ap (λ k. in_pool (k / 516) p) l in
-      ⊎_elim
-      (λ h. let a = lead_same p 2 h (omega arith) in let b = lead_same p 3 h (omega arith) in cc)
-      (λ h. out (in_pool (length x / 516) p) (leb (mark_of x p) 1) (eqb (get_or x (base_of p + 3) 0) 0) (n ∙ h)
-      ∙ sym (out (in_pool (length m / 516) p) (leb (mark_of m p) 1) (eqb (get_or m (base_of p + 3) 0) 0) h))
-      (cases_Bool (in_pool (length m / 516) p))
-
-  leads_same : (page : ℕ) (pages : List ℕ) → leads_through x page pages ≡ leads_through m page pages
-  leads_same page [] = refl
-  leads_same page (p ∷ pages) =
-      ⊎_elim
-      (λ h. ap (λ b. (eqb p page && b) && leads_through x (next_of x page) pages) (ok_same page)
-      ∙ ap (λ q. (eqb p page && page_ok m page) && leads_through x q pages) (next_same page h)
-      ∙ ap (λ b. (eqb p page && page_ok m page) && b) (leads_same (next_of m page) pages))
-      (λ h. let o = out (in_pool (length m / 516) page) (leb (mark_of m page) 1) (eqb (get_or m (base_of page + 3) 0) 0) h in
-      stops (eqb p page) (page_ok x page) _ (ok_same page ∙ o) ∙ sym (stops (eqb p page) (page_ok m page) _ o))
-      (cases_Bool (in_pool (length m / 516) page))
-    where
-      stops : (a b c : Bool) → b ≡ false → ((a && b) && c) ≡ false
-      stops a b c h = and_left (a && b) c (and_right a b h)
-
-  walk_same : (n p : ℕ) → walk x n p ≡ walk m n p
-  walk_same zero p = refl
-  walk_same (suc n) p =
-      ⊎_elim
-      (λ h. ap (λ b. cond b (cond (eqb (next_of x p) 0) (Some (p ∷ [])) (option_map (λ ps. p ∷ ps) (walk x n (next_of x p)))) None) (ok_same p)
-      ∙ ap (λ q. cond (page_ok m p) (cond (eqb q 0) (Some (p ∷ [])) (option_map (λ ps. p ∷ ps) (walk x n q))) None) (next_same p h)
-      ∙ ap (λ o. cond (page_ok m p) (cond (eqb (next_of m p) 0) (Some (p ∷ [])) (option_map (λ ps. p ∷ ps) o)) None) (walk_same n (next_of m p)))
-      (λ h. let o = out (in_pool (length m / 516) p) (leb (mark_of m p) 1) (eqb (get_or m (base_of p + 3) 0) 0) h in
-      walk_bad x (suc n) p (ok_same p ∙ o) ∙ sym (walk_bad m (suc n) p o))
-      (cases_Bool (in_pool (length m / 516) p))
-
-  -- every chain of the pool has the pages that it had
-  pages_same : (first : ℕ) → pages_from x first ≡ pages_from m first
-  pages_same first =
-      ap (λ n. cond (whole 516 n) (unwrap_or (walk x (n / 516) first) []) []) l ∙ ap (λ o. cond (whole 516 (length m)) (unwrap_or o []) []) (walk_same (length m / 516) first)
-
-  fits_same : (size first : ℕ) (pages : List ℕ) → fits_pool x size first pages ≡ fits_pool m size first pages
-  fits_same size first pages =
-      let s = leads_same first pages in
-      cc
-
-flag_same : (a b : Bool) → flag a ≡ flag b → a ≡ b
-flag_same true true e = refl
-flag_same true false e = absurd (omega arith)
-flag_same false true e = absurd (omega arith)
-flag_same false false e = refl
-
--- what is kept of a memory tells its length
-same_length_kept : (m x ps qs : List ℕ) → chain_kept x qs ≡ chain_kept m ps → length x ≡ length m
-same_length_kept m x ps qs e =
-    let n : length x / 516 ≡ length m / 516 =
-    sym (length-map-range_with_len (kept_of x qs) 0 (length x / 516)) ∙ ap (λ ks. length (drop 1 ks)) e ∙ length-map-range_with_len (kept_of m ps) 0 (length m / 516) in
-    let r : length x - length x / 516 * 516 ≡ length m - length m / 516 * 516 =
-    sym (length-between x (length x / 516 * 516) (length x) (omega arith)) ∙ ap (λ ks. length (get_or ks 0 [])) e ∙ length-between m (length m / 516 * 516) (length m) (omega arith) in
-    omega arith
-
-module _ (m : List ℕ) (ch : Chain) (a : ChainedArea) (holds : a.memory.now ≡ m) (index : a.chain.now ≡ ch) (fits : a.fits ≡ fits_pool m ch.size ch.first (vec_items ch.pages)) where
-  size_is : a.chain.now.size ≡ ch.size
-  size_is = ap (λ k. k.size) index
-
-  pages_are : vec_items a.chain.now.pages ≡ vec_items ch.pages
-  pages_are = ap (λ k. vec_items k.pages) index
-
-  used_before : used_by a ≡ pool_pages m ch
-  used_before = let s = size_is in let p = pages_are in let n = ap length holds in cc
-
-  pub row_before : chained_row a ≡ pool_row m ch
-  row_before = let u = used_before in cc
-
-  module _ (a' : ChainedArea) (framed : chained_frame a' ≡ chained_frame a) where
-    same_kept : chain_kept a'.memory.now (used_by a') ≡ chain_kept m (used_by a)
-    same_kept = ap (drop 2) framed ∙ ap (λ x. chain_kept x (used_by a)) holds
-
-    pub same_length : length a'.memory.now ≡ length m
-    same_length = same_length_kept m a'.memory.now (used_by a) (used_by a') same_kept
-
-    same_fits : a'.fits ≡ a.fits
-    same_fits = flag_same a'.fits a.fits (ap (λ f. get_or (get_or f 0 []) 0 0) framed)
-
-    same_size : a'.chain.now.size ≡ a.chain.now.size
-    same_size = ap (λ f. get_or (get_or f 0 []) 1 0) framed
-
-    same_pages : vec_items a'.chain.now.pages ≡ vec_items a.chain.now.pages
-    same_pages = ap (λ f. get_or f 1 []) framed
-
-    used_after : used_by a' ≡ used_by a
-    used_after = let f = same_fits in let s = same_size in let p = same_pages in let n = same_length ∙ sym (ap length holds) in cc
-
-    same_pages_kept : kept_pages a'.memory.now (used_by a) ≡ kept_pages m (used_by a)
-    same_pages_kept = ap (λ u. kept_pages a'.memory.now u) (sym used_after) ∙ ap (drop 1) same_kept
-
-    pub chains_after : (first : ℕ) → pages_from a'.memory.now first ≡ pages_from m first
-    chains_after first = pages_same m a'.memory.now (used_by a) same_length same_pages_kept first
-
-    still_fits : a'.fits ≡ fits_pool a'.memory.now ch.size ch.first (vec_items ch.pages)
-    still_fits =
-        same_fits ∙ fits ∙ sym (fits_same m a'.memory.now (used_by a) same_length same_pages_kept ch.size ch.first (vec_items ch.pages))
-
-    pool_used : pool_pages a'.memory.now ch ≡ used_by a'
-    pool_used = let f = still_fits in let s = same_size ∙ size_is in let p = same_pages ∙ pages_are in cc
-
-    pub row_after : pool_row a'.memory.now ch ≡ chained_row a'
-    row_after = ap (row_of a'.memory.now) pool_used
-
-    pub kept_after : pool_kept a'.memory.now ch ≡ pool_kept m ch
-    kept_after = ap (chain_kept a'.memory.now) pool_used ∙ same_kept ∙ ap (chain_kept m) used_before
-
-    pub pool_same : pool_pages a'.memory.now ch ≡ pool_pages m ch
-    pool_same = pool_used ∙ used_after ∙ used_before
+pub afterwards : (m : List ℕ) (ch : Chain) (c : InPages) (m' : List ℕ) → chained_frame c m' ≡ pool_pages m ch ∷ pool_kept m ch → Afterwards m ch c m'
+afterwards m ch c m' framed =
+    let ps = pool_pages m ch in
+    let used : c.pages.now ≡ ps = ap (λ f. get_or f 0 []) framed in
+    let all : chain_kept m' ps ≡ chain_kept m ps = ap (chain_kept m') (sym used) ∙ ap (drop 1) framed in
+    let long = same_length m m' ps ps all in
+    let pages : pool_pages m' ch ≡ ps = ap (λ b. if b then vec_items ch.pages else []) (fits_same m m' ps long (ap (drop 1) all) ch.size ch.first (vec_items ch.pages)) in
+    record {
+      used = pages;
+      row = ap (row_of m') (pages ∙ sym used);
+      kept = ap (chain_kept m') pages ∙ all;
+      told = λ r. pool_told m m' ps long (ap (row_of m') (sym pages) ∙ r) all;
+      chains = pages_same m m' ps long (ap (drop 1) all);
+    }

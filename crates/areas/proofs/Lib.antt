@@ -1,7 +1,9 @@
 pub mod Memory
 pub mod PlainParts
+pub mod Same
 pub mod Walks
 pub mod ChainParts
 pub mod Pool
-pub mod Lending
+pub mod Kept
 pub mod Told
+pub mod Lending

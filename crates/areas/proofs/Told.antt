@@ -1,18 +1,16 @@
 -- A row and what is kept beside it tell the whole memory. Assumes nothing.
-use Rattle.std.proofs.Common.{◌≡◌, ℕ, suc, ◌+◌, ◌-◌, ◌*◌, ◌/◌, ◌%◌, ◌<◌, ◌≤◌, true, false, cond, ◌&&◌, eqb, ltb, leb, List, [], ◌∷◌, length, get_or, drop, sym, refl, ap, ◌∙◌, ⊎_elim, arith}
+use Rattle.std.proofs.Common.{◌≡◌, ℕ, suc, ◌+◌, ◌-◌, ◌*◌, ◌/◌, ◌%◌, ◌<◌, ◌≤◌, true, false, cond, ◌&&◌, eqb, List, [], ◌∷◌, length, get_or, drop, sym, refl, ap, ◌∙◌, ⊎_elim, arith}
 use Rattle.std.specs.List.{between}
 use Rattle.std.proofs.lemmas.List.{same_lists}
 use Rattle.std.proofs.lemmas.List.Edits.{get_or-between}
-use Rattle.std.proofs.lemmas.Bool.{and_parts, and_from, or_cases, both_ways, cond-true, cond-false, cases_Bool, cases_lt, eqb-true, lt-ltb, le-leb}
+use Rattle.std.proofs.lemmas.Bool.{and_parts, or_cases, both_ways, cond-true, cond-false, cases_Bool, cases_lt, eqb-true}
 use Rattle.store.specs.Rows.{good, bad, bytes_from}
 use Rattle.areas.specs.PlainRows.{whole, plain_row, plain_frame}
-use Rattle.areas.specs.ChainedRows.{base_of, mark_of, in_pool, has, page_segment, row_of, kept_length, kept_pages, chain_kept}
-use Rattle.areas.specs.declared.index.Chain.{Chain}
-use Rattle.areas.specs.Areas.{pool_pages, pool_row, pool_kept}
-use Rattle.areas.specs.Laws.{whole_means}
+use Rattle.areas.specs.ChainedRows.{base_of, mark_of, has, page_segment, row_of, kept_length, kept_pages, chain_kept}
+use Rattle.areas.specs.Laws.{whole_means, row_at}
 use Rattle.areas.proofs.PlainParts.{plain_at}
-use Rattle.areas.proofs.ChainParts.{row_at, page_good}
-use Rattle.areas.proofs.Lending.{kept_same, lead_same}
+use Rattle.areas.proofs.ChainParts.{page_in_pool, page_good}
+use Rattle.areas.proofs.Kept.{kept_same, lead_same}
 
 byte_from : (m x : List ℕ) (a j d : ℕ) → bytes_from x a ≡ bytes_from m a → j < 512 → get_or x (a + j) d ≡ get_or m (a + j) d
 byte_from m x a j d e l =
@@ -48,7 +46,7 @@ module _ (m x ps : List ℕ) (l : length x ≡ length m) (r : row_of x ps ≡ ro
   -- a byte of page k + 1
   page_byte : (k j d : ℕ) → k < length m / 516 → j < 516 → get_or x (k * 516 + j) d ≡ get_or m (k * 516 + j) d
   page_byte k j d lt h =
-      let q : in_pool (length m / 516) (k + 1) ≡ true = and_from (ltb 0 (k + 1)) (leb (k + 1) (length m / 516)) (lt-ltb 0 (k + 1) (omega arith)) (le-leb (k + 1) (length m / 516) (omega arith)) in
+      let q = page_in_pool (length m / 516) k lt in
       let mark : mark_of x (k + 1) ≡ mark_of m (k + 1) = lead_same m x ps l pages (k + 1) 2 q (omega arith) in
       let wide : kept_length x ps k ≡ kept_length m ps k = ap (λ n. cond (has (k + 1) ps && eqb n 0) 4 516) mark in
       ⊎_elim
@@ -88,6 +86,3 @@ module _ (m x ps : List ℕ) (l : length x ≡ length m) (r : row_of x ps ≡ ro
       ap (λ n. get_or x n d) (sym z) ∙ page_byte (t / 516) (t % 516) d h (omega arith) ∙ ap (λ n. get_or m n d) z)
       (λ (h : length m / 516 ≤ t / 516). tail_byte t d (omega arith) (omega arith))
       (cases_lt (t / 516) (length m / 516)))
-
-pub pool_unchanged : (m x : List ℕ) (ch : Chain) → length x ≡ length m → pool_pages x ch ≡ pool_pages m ch → pool_row x ch ≡ pool_row m ch → pool_kept x ch ≡ pool_kept m ch → x ≡ m
-pool_unchanged m x ch l u r k = pool_told m x (pool_pages m ch) l (ap (row_of x) (sym u) ∙ r) (ap (chain_kept x) (sym u) ∙ k)

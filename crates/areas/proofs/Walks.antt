@@ -1,73 +1,96 @@
--- Chains of pages: their steps, and that no page stands twice in one that ends. Assumes nothing.
-use Rattle.std.proofs.Common.{◌≡◌, ℕ, zero, suc, ◌+◌, ◌-◌, ◌/◌, ◌<◌, ◌≤◌, Bool, true, false, cond, not, ◌&&◌, eqb, leb, List, [], ◌∷◌, ◌++◌, length, get_or, drop, is_some, Some, None, Option, unwrap_or, sym, refl, ap, ◌∙◌, subst, ⊎_elim, arith}
+-- Chains of pages: what a walk meets, and that no page stands twice in one that ends. Assumes nothing.
+use Rattle.std.proofs.Common.{◌≡◌, ℕ, zero, suc, ◌/◌, ◌<◌, ◌≤◌, ◌≢◌, true, false, cond, eqb, List, [], ◌∷◌, ◌++◌, length, map, get_or, is_some, Some, None, Option, unwrap_or, sym, refl, ap, ◌∙◌, ⊎_elim, arith, rules, append_assoc, ◌-◌, ◌+◌}
+use Rattle.std.specs.List.{list_all}
 use Rattle.std.specs.Option.{option_map}
-use Rattle.std.proofs.lemmas.List.{append_assoc, drop_more, drop_all}
-use Rattle.std.proofs.lemmas.Bool.{and_parts, and_from, and_left, and_right, cond-true, cond-false, cases_Bool, eq-eqb, ne_eqb, eqb-true, eqb-false, or_cases, or_left, or_right, not-true, both_ways}
+use Rattle.std.proofs.lemmas.Iterator.Adapters.{option_map_id}
+use Rattle.std.proofs.lemmas.Bool.{cases_Bool, eqb-true, or_cases}
+use Rattle.std.proofs.lemmas.Bool.Decides.{nat_tests}
+use borrow.Author.Tests.{tests}
 use Rattle.areas.specs.PlainRows.{whole}
-use Rattle.areas.specs.ChainedRows.{base_of, next_of, mark_of, in_pool, page_ok, step_from, Ends, last, more, walk, pages_from, has, once, leads_through}
+use Rattle.areas.specs.ChainedRows.{next_of, in_pool, page_ok, Ends, last, more, walk, pages_met, pages_from, has, once, leads_through}
 
 -- what `page_ok` tells
 pub page_in : (m : List ℕ) (p : ℕ) → page_ok m p ≡ true → in_pool (length m / 516) p ≡ true
-page_in m p h =
-    (and_parts (in_pool (length m / 516) p) (leb (mark_of m p) 1)
-    (and_parts (in_pool (length m / 516) p && leb (mark_of m p) 1) (eqb (get_or m (base_of p + 3) 0) 0) h).0).0
+page_in m p h = search (rules, tests)
 
--- what a step tells
-pub step_on : (m : List ℕ) (p q : ℕ) → Some q ≡ step_from m p → (page_ok m p ≡ true) × (q ≡ next_of m p)
-step_on m p q e = by (page_ok m p) e
-  where
-    by : (b : Bool) → Some q ≡ cond b (Some (next_of m p)) None → (b ≡ true) × (q ≡ next_of m p)
-    by true h = (refl, (cc))
-    by false h = absurd (let z : ◌≡◌ {A = ℕ} 0 1 = cc in omega arith)
+pub none_zero : (m : List ℕ) → page_ok m 0 ≡ false
+none_zero m = refl
 
-pub step_off : (m : List ℕ) (p : ℕ) → None ≡ step_from m p → page_ok m p ≡ false
-step_off m p e = by (page_ok m p) e
-  where
-    by : (b : Bool) → None ≡ cond b (Some (next_of m p)) None → b ≡ false
-    by true h = absurd (let z : ◌≡◌ {A = ℕ} 0 1 = cc in omega arith)
-    by false h = refl
-
--- the steps of a walk
 pub walk_bad : (m : List ℕ) (n p : ℕ) → page_ok m p ≡ false → walk m n p ≡ None
 walk_bad m zero p h = refl
-walk_bad m (suc n) p h = cond-false (page_ok m p) _ _ h
+walk_bad m (suc n) p h = search (rules, tests)
 
-pub walk_suc_last : (m : List ℕ) (n p : ℕ) → page_ok m p ≡ true → next_of m p ≡ 0 → walk m (suc n) p ≡ Some (p ∷ [])
-walk_suc_last m n p h e = cond-true (page_ok m p) _ _ h ∙ cond-true (eqb (next_of m p) 0) _ _ (eq-eqb (next_of m p) 0 e)
+-- the values, where each is there
+abbrev pub all_there : List (Option ℕ) → Option (List ℕ)
+all_there [] = Some []
+all_there (None ∷ os) = None
+all_there (Some p ∷ os) = option_map (λ ps. p ∷ ps) (all_there os)
 
-pub walk_suc_more : (m : List ℕ) (n p : ℕ) → page_ok m p ≡ true → (next_of m p ≡ 0 → ⊥) → walk m (suc n) p ≡ option_map (λ ps. p ∷ ps) (walk m n (next_of m p))
-walk_suc_more m n p h e = cond-true (page_ok m p) _ _ h ∙ cond-false (eqb (next_of m p) 0) _ _ (ne_eqb (next_of m p) 0 e)
+pub all_there-append : (ps : List ℕ) (os : List (Option ℕ)) → all_there (map Some ps ++ os) ≡ option_map (λ qs. ps ++ qs) (all_there os)
+all_there-append [] os = sym (option_map_id (all_there os))
+all_there-append (p ∷ ps) os = rw (all_there-append ps os) (twice (all_there os))
+  where
+    twice : (o : Option (List ℕ)) → option_map (λ qs. p ∷ qs) (option_map (λ qs. ps ++ qs) o) ≡ option_map (λ qs. p ∷ ps ++ qs) o
+    twice None = refl
+    twice (Some qs) = refl
 
-pub walk_last : (m : List ℕ) (n i p : ℕ) → i < n → page_ok m p ≡ true → next_of m p ≡ 0 → walk m (n - i) p ≡ Some (p ∷ [])
-walk_last m n i p l h e = let s : n - i ≡ suc (n - (i + 1)) = omega arith in ap (λ k. walk m k p) s ∙ walk_suc_last m (n - (i + 1)) p h e
+pub all_there-some : (ps : List ℕ) → all_there (map Some ps) ≡ Some ps
+all_there-some [] = refl
+all_there-some (p ∷ ps) = rw (all_there-some ps)
 
-pub walk_more : (m : List ℕ) (n i p : ℕ) → i < n → page_ok m p ≡ true → (next_of m p ≡ 0 → ⊥) → walk m (n - i) p ≡ option_map (λ ps. p ∷ ps) (walk m (n - (i + 1)) (next_of m p))
-walk_more m n i p l h e = let s : n - i ≡ suc (n - (i + 1)) = omega arith in ap (λ k. walk m k p) s ∙ walk_suc_more m (n - (i + 1)) p h e
+is_some-all_there : (os : List (Option ℕ)) → is_some (all_there os) ≡ list_all is_some os
+is_some-all_there [] = refl
+is_some-all_there (None ∷ os) = refl
+is_some-all_there (Some p ∷ os) = by (all_there os) ∙ is_some-all_there os
+  where
+    by : (o : Option (List ℕ)) → is_some (option_map (λ ps. p ∷ ps) o) ≡ is_some o
+    by None = refl
+    by (Some ps) = refl
 
-pub some_mapped : {X Y : Type 0} (f : X → Y) (o : Option X) → is_some (option_map f o) ≡ is_some o
-some_mapped f None = refl
-some_mapped f (Some x) = refl
+-- a walk by what it meets
+pub met_none : (m : List ℕ) (n : ℕ) → pages_met m n 0 ≡ []
+met_none m zero = refl
+met_none m (suc n) = refl
 
-pub mapped_push : (xs : List ℕ) (p : ℕ) (o : Option (List ℕ)) → option_map (λ ps. xs ++ ps) (option_map (λ ps. p ∷ ps) o) ≡ option_map (λ ps. (xs ++ p ∷ []) ++ ps) o
-mapped_push xs p None = refl
-mapped_push xs p (Some ps) = ap Some (sym (append_assoc xs (p ∷ []) ps))
+pub walk-met : (m : List ℕ) (n p : ℕ) → walk m n p ≡ cond (eqb p 0) None (all_there (pages_met m n p))
+walk-met m zero p = search (rules, tests)
+walk-met m (suc n) p = let h = walk-met m n (next_of m p) in let z = met_none m n in let y = none_zero m in grind (arith, nat_tests)
+
+pub found-met : (m : List ℕ) (n p : ℕ) → (p ≡ 0 → ⊥) → is_some (walk m n p) ≡ list_all is_some (pages_met m n p)
+found-met m n p ne = let h = walk-met m n p in let e = is_some-all_there (pages_met m n p) in search (rules, tests)
+
+-- the pages by what a walk meets: ps so far, and then os
+pub pages_from-met : (m : List ℕ) (first : ℕ) (ps : List ℕ) {rest os : List (Option ℕ)} → whole 516 (length m) ≡ true → pages_met m (length m / 516) first ≡ map Some ps ++ rest → rest ≡ os
+    → pages_from m first ≡ unwrap_or (option_map (λ qs. ps ++ qs) (all_there os)) []
+pages_from-met m first ps {rest} {os} w h e =
+    let t = walk-met m (length m / 516) first in
+    let z = met_none m (length m / 516) in
+    let a : all_there (pages_met m (length m / 516) first) ≡ option_map (λ qs. ps ++ qs) (all_there os) = ap all_there (h ∙ ap (λ r. map Some ps ++ r) e) ∙ all_there-append ps os in
+    grind (arith, nat_tests)
 
 -- a walk that ends is a chain
-from_mapped : (m : List ℕ) (p : ℕ) (o : Option (List ℕ)) (qs : List ℕ) → page_ok m p ≡ true → (next_of m p ≡ 0 → ⊥)
-    → ((ps : List ℕ) → o ≡ Some ps → Ends m (next_of m p) ps) → option_map (λ ps. p ∷ ps) o ≡ Some qs → Ends m p qs
-from_mapped m p None qs h e r s = absurd (let z : ◌≡◌ {A = ℕ} 0 1 = cc in omega arith)
-from_mapped m p (Some ps) qs h e r s = let t : p ∷ ps ≡ qs = cc in subst (λ x. Ends m p x) t (more h e (r ps refl))
+pub leads_ends : (m : List ℕ) (page p : ℕ) (ps : List ℕ) → leads_through m page (p ∷ ps) ≡ true → Ends m page (p ∷ ps)
+leads_ends m page p [] h =
+    let e : p ≡ page = search (rules, tests) in
+    let k : page_ok m page ≡ true = search (rules, tests) in
+    let z : next_of m page ≡ 0 = search (rules, tests) in
+    rw e (last k z)
+leads_ends m page p (q ∷ qs) h =
+    let e : p ≡ page = search (rules, tests) in
+    let k : page_ok m page ≡ true = search (rules, tests) in
+    let z : next_of m page ≢ 0 = grind (arith, nat_tests) in
+    let r : leads_through m (next_of m page) (q ∷ qs) ≡ true = search (rules, tests) in
+    rw e (more k z (leads_ends m (next_of m page) q qs r))
+
+pub walk_leads : (m : List ℕ) (n p : ℕ) (ps : List ℕ) → walk m n p ≡ Some ps → leads_through m p ps ≡ true
+walk_leads m zero p ps h = absurd (cc)
+walk_leads m (suc n) p [] h = grind (arith, nat_tests)
+walk_leads m (suc n) p (q ∷ ps) h = let r = walk_leads m n (next_of m p) ps in grind (arith, nat_tests)
 
 pub walk_ends : (m : List ℕ) (n p : ℕ) (ps : List ℕ) → walk m n p ≡ Some ps → Ends m p ps
-walk_ends m zero p ps s = absurd (let z : ◌≡◌ {A = ℕ} 0 1 = cc in omega arith)
-walk_ends m (suc n) p ps s =
-    ⊎_elim
-    (λ h. ⊎_elim
-    (λ e. let z = eqb-true (next_of m p) 0 e in let t : p ∷ [] ≡ ps = (let w = walk_suc_last m n p h z in cc) in subst (λ x. Ends m p x) t (last h z))
-    (λ e. let z = eqb-false (next_of m p) 0 e in from_mapped m p (walk m n (next_of m p)) ps h z (λ qs r. walk_ends m n (next_of m p) qs r) (sym (walk_suc_more m n p h z) ∙ s))
-    (cases_Bool (eqb (next_of m p) 0)))
-    (λ h. absurd (let w = walk_bad m (suc n) p h in let z : ◌≡◌ {A = ℕ} 0 1 = cc in omega arith))
-    (cases_Bool (page_ok m p))
+walk_ends m zero p [] h = absurd (cc)
+walk_ends m (suc n) p [] h = grind (arith, nat_tests)
+walk_ends m n p (q ∷ ps) h = leads_ends m p q ps (walk_leads m n p (q ∷ ps) h)
 
 -- from one page on there is one chain
 ends_one : (m : List ℕ) {p : ℕ} {ps qs : List ℕ} → Ends m p ps → Ends m p qs → ps ≡ qs
@@ -78,14 +101,10 @@ ends_one m (more {p} h e r) (more k f s) = ap (λ x. p ∷ x) (ends_one m r s)
 
 -- a page on a chain has a chain that is no longer
 ends_at : (m : List ℕ) (q : ℕ) {p : ℕ} {ps : List ℕ} → Ends m p ps → has q ps ≡ true → (qs : List ℕ) × (Ends m q qs × (length qs ≤ length ps))
-ends_at m q (last {p} h e) t =
-    ⊎_elim
-    (λ s. subst (λ x. (qs : List ℕ) × (Ends m x qs × (length qs ≤ 1))) (sym (eqb-true q p s)) (p ∷ [], (last h e, omega arith)))
-    (λ f. absurd (both_ways false refl f))
-    (or_cases (eqb q p) false t)
+ends_at m q (last {p} h e) t = let s : q ≡ p = search (rules, tests) in rw s (p ∷ [], (last h e, omega arith))
 ends_at m q (more {p} {ps} h e r) t =
     ⊎_elim
-    (λ s. subst (λ x. (qs : List ℕ) × (Ends m x qs × (length qs ≤ length (p ∷ ps)))) (sym (eqb-true q p s)) (p ∷ ps, (more h e r, omega arith)))
+    (λ s. let s' = eqb-true q p s in rw s' (p ∷ ps, (more h e r, omega arith)))
     (λ s. let w = ends_at m q r s in (w.0, (w.1.0, omega (arith, w.1.1))))
     (or_cases (eqb q p) (has q ps) t)
 
@@ -98,74 +117,42 @@ not_again m {p} {ps} all r =
     (cases_Bool (has p ps))
 
 pub ends_once : (m : List ℕ) {p : ℕ} {ps : List ℕ} → Ends m p ps → once (length m / 516) ps ≡ true
-ends_once m (last {p} h e) = and_from (in_pool (length m / 516) p && true) true (and_from (in_pool (length m / 516) p) true (page_in m p h) refl) refl
-ends_once m (more {p} {ps} h e r) =
-    and_from (in_pool (length m / 516) p && not (has p ps)) (once (length m / 516) ps)
-    (and_from (in_pool (length m / 516) p) (not (has p ps)) (page_in m p h) (ap not (not_again m (more h e r) r)))
-    (ends_once m r)
-
-once_or : (m : List ℕ) (p : ℕ) (b : Bool) (o : Option (List ℕ)) → ((ps : List ℕ) → o ≡ Some ps → Ends m p ps) → once (length m / 516) (cond b (unwrap_or o []) []) ≡ true
-once_or m p true None r = refl
-once_or m p true (Some ps) r = ends_once m (r ps refl)
-once_or m p false o r = refl
-
--- the pages of a chain are in the pool, and none stands twice
-pub pages_once : (m : List ℕ) (first : ℕ) → once (length m / 516) (pages_from m first) ≡ true
-pages_once m first = once_or m first (whole 516 (length m)) (walk m (length m / 516) first) (λ ps e. walk_ends m (length m / 516) first ps e)
-
-pub pages_at : (m : List ℕ) (first : ℕ) (o : Option (List ℕ)) → whole 516 (length m) ≡ true → walk m (length m / 516) first ≡ o → pages_from m first ≡ unwrap_or o []
-pages_at m first o h e = cond-true (whole 516 (length m)) _ _ h ∙ ap (λ x. unwrap_or x []) e
-
--- the index made so far, at its last page
-pub pages_last : (m : List ℕ) (first i p : ℕ) (xs ys : List ℕ) → whole 516 (length m) ≡ true → i < length m / 516 → page_ok m p ≡ true → next_of m p ≡ 0 → ys ≡ xs ++ p ∷ []
-    → option_map (λ ps. xs ++ ps) (walk m (length m / 516 - i) p) ≡ walk m (length m / 516) first → ys ≡ pages_from m first
-pages_last m first i p xs ys w l h e a inv =
-    let o : walk m (length m / 516) first ≡ Some (xs ++ p ∷ []) = sym inv ∙ ap (option_map (λ ps. xs ++ ps)) (walk_last m (length m / 516) i p l h e) in
-    a ∙ sym (pages_at m first (Some (xs ++ p ∷ [])) w o)
-
-pub chain_step : (m : List ℕ) (n i p q : ℕ) (xs ys : List ℕ) (o : Option (List ℕ)) → i < n → page_ok m p ≡ true → q ≡ next_of m p → (q ≡ 0 → ⊥) → ys ≡ xs ++ p ∷ []
-    → option_map (λ ps. xs ++ ps) (walk m (n - i) p) ≡ o → option_map (λ ps. ys ++ ps) (walk m (n - (i + 1)) q) ≡ o
-chain_step m n i p q xs ys o l h e z a inv =
-    ap (λ x. option_map (λ ps. ys ++ ps) (walk m (n - (i + 1)) x)) e
-    ∙ ap (λ (x : List ℕ). option_map (λ ps. x ++ ps) (walk m (n - (i + 1)) (next_of m p))) a
-    ∙ sym (mapped_push xs p (walk m (n - (i + 1)) (next_of m p)))
-    ∙ sym (ap (option_map (λ ps. xs ++ ps)) (walk_more m n i p l h (λ w. z (e ∙ w)))) ∙ inv
-
--- the steps along a list of pages
-leads_at : (m pages : List ℕ) (page i : ℕ) → i < length pages
-    → leads_through m page (drop i pages) ≡ ((eqb (get_or pages i 0) page && page_ok m page) && leads_through m (next_of m page) (drop (i + 1) pages))
-leads_at m pages page i l = ap (leads_through m page) (drop_more pages i 0 l)
-
-pub leads_other : (m pages : List ℕ) (page i : ℕ) → i < length pages → (get_or pages i 0 ≡ page → ⊥) → leads_through m page (drop i pages) ≡ false
-leads_other m pages page i l ne =
-    leads_at m pages page i l ∙ and_left (eqb (get_or pages i 0) page && page_ok m page) _ (and_left (eqb (get_or pages i 0) page) (page_ok m page) (ne_eqb (get_or pages i 0) page ne))
-
-pub leads_bad : (m pages : List ℕ) (page i : ℕ) → i < length pages → page_ok m page ≡ false → leads_through m page (drop i pages) ≡ false
-leads_bad m pages page i l h =
-    leads_at m pages page i l ∙ and_left (eqb (get_or pages i 0) page && page_ok m page) _ (and_right (eqb (get_or pages i 0) page) (page_ok m page) h)
-
-pub leads_more : (m pages : List ℕ) (page i : ℕ) → i < length pages → get_or pages i 0 ≡ page → page_ok m page ≡ true
-    → leads_through m (next_of m page) (drop (i + 1) pages) ≡ leads_through m page (drop i pages)
-leads_more m pages page i l e h =
-    sym (leads_at m pages page i l ∙ ap (λ b. b && leads_through m (next_of m page) (drop (i + 1) pages)) (and_from (eqb (get_or pages i 0) page) (page_ok m page) (eq-eqb (get_or pages i 0) page e) h))
-
-pub leads_all : (m pages : List ℕ) (page i : ℕ) → length pages ≤ i → leads_through m page (drop i pages) ≡ eqb page 0
-leads_all m pages page i l = ap (leads_through m page) (drop_all i pages l)
+ends_once m (last {p} h e) = let i = page_in m p h in search (rules, tests)
+ends_once m (more {p} {ps} h e r) = let i = page_in m p h in let n = not_again m (more h e r) r in let o = ends_once m r in search (rules, tests)
 
 -- no two places of an index hold the same page
 pub has_at : (ps : List ℕ) (i : ℕ) → i < length ps → has (get_or ps i 0) ps ≡ true
 has_at [] i l = absurd (omega arith)
-has_at (p ∷ ps) zero l = or_left (eqb p p) (has p ps) (eq-eqb p p refl)
-has_at (p ∷ ps) (suc i) l = or_right (eqb (get_or ps i 0) p) (has (get_or ps i 0) ps) (has_at ps i (omega arith))
+has_at (p ∷ ps) zero l = search (rules, tests)
+has_at (p ∷ ps) (suc i) l = let r = has_at ps i (omega arith) in search (rules, tests)
 
 not_first : (n p : ℕ) (ps : List ℕ) (i : ℕ) → once n (p ∷ ps) ≡ true → i < length ps → p ≡ get_or ps i 0 → ⊥
-not_first n p ps i h l e =
-    both_ways (has p ps) (not-true (has p ps) (and_parts (in_pool n p) (not (has p ps)) (and_parts (in_pool n p && not (has p ps)) (once n ps) h).0).1)
-    (ap (λ x. has x ps) e ∙ has_at ps i l)
+not_first n p ps i h l e = let a = has_at ps i l in grind (arith, nat_tests)
 
 pub once_apart : (n : ℕ) (ps : List ℕ) (i j : ℕ) → once n ps ≡ true → i < length ps → j < length ps → get_or ps i 0 ≡ get_or ps j 0 → i ≡ j
 once_apart n [] i j h l k e = absurd (omega arith)
 once_apart n (p ∷ ps) zero zero h l k e = refl
 once_apart n (p ∷ ps) zero (suc j) h l k e = absurd (not_first n p ps j h (omega arith) e)
 once_apart n (p ∷ ps) (suc i) zero h l k e = absurd (not_first n p ps i h (omega arith) (sym e))
-once_apart n (p ∷ ps) (suc i) (suc j) h l k e = ap suc (once_apart n ps i j (and_parts (in_pool n p && not (has p ps)) (once n ps) h).1 (omega arith) (omega arith) e)
+once_apart n (p ∷ ps) (suc i) (suc j) h l k e = ap suc (once_apart n ps i j (search (rules, tests)) (omega arith) (omega arith) e)
+
+-- ---- a walk of which some pages are behind
+
+mapped_push : (xs : List ℕ) (p : ℕ) (o : Option (List ℕ)) → option_map (λ ps. xs ++ ps) (option_map (λ ps. p ∷ ps) o) ≡ option_map (λ ps. (xs ++ p ∷ []) ++ ps) o
+mapped_push xs p None = refl
+mapped_push xs p (Some ps) = ap Some (sym (append_assoc xs (p ∷ []) ps))
+
+pub chain_step : (m : List ℕ) (n i p q : ℕ) (xs ys : List ℕ) (o : Option (List ℕ)) → i < n → page_ok m p ≡ true → q ≡ next_of m p → (q ≡ 0 → ⊥) → ys ≡ xs ++ p ∷ []
+    → option_map (λ ps. xs ++ ps) (walk m (n - i) p) ≡ o → option_map (λ ps. ys ++ ps) (walk m (n - (i + 1)) q) ≡ o
+chain_step m n i p q xs ys o l h e z a inv =
+    let k : n - i ≡ suc (n - (i + 1)) = omega arith in
+    let w : walk m (n - i) p ≡ option_map (λ ps. p ∷ ps) (walk m (n - (i + 1)) q) = rw k (grind (arith, nat_tests)) in
+    rw (a) (sym (mapped_push xs p (walk m (n - (i + 1)) q)) ∙ ap (option_map (λ ps. xs ++ ps)) (sym w) ∙ inv)
+
+-- the index made so far, at its last page
+pub pages_last : (m : List ℕ) (first i p : ℕ) (xs ys : List ℕ) → whole 516 (length m) ≡ true → i < length m / 516 → page_ok m p ≡ true → next_of m p ≡ 0 → ys ≡ xs ++ p ∷ []
+    → option_map (λ ps. xs ++ ps) (walk m (length m / 516 - i) p) ≡ walk m (length m / 516) first → ys ≡ pages_from m first
+pages_last m first i p xs ys w l h e a inv =
+    let k : length m / 516 - i ≡ suc (length m / 516 - (i + 1)) = omega arith in
+    let o : walk m (length m / 516 - i) p ≡ Some (p ∷ []) = rw k (grind (arith, nat_tests)) in
+    grind arith

@@ -1,12 +1,12 @@
 -- Segments that lie in the pages of a pool, chained by page numbers. Assumes nothing.
 -- Pages are numbered from 1. A page is 516 bytes: the next page's number, high byte first, a mark, a zero byte, a segment.
-use Rattle.std.specs.Prelude.{◌≡◌, ℕ, zero, suc, ◌+◌, ◌-◌, ◌*◌, ◌/◌, ◌<◌, Bool, true, false, cond, not, ◌&&◌, ◌||◌, List, [], ◌∷◌, map, length, is_some, Some, None, Ok, Option, ◌==◌, ◌≢◌, nat_le, nat_lt, slice_index}
+use Rattle.std.specs.Prelude.{◌≡◌, ℕ, zero, suc, ◌+◌, ◌-◌, ◌*◌, ◌/◌, Bool, true, false, cond, not, ◌&&◌, ◌||◌, List, [], ◌∷◌, map, length, is_some, Some, None, Ok, Option, ◌==◌, ◌≢◌, nat_le, nat_lt, slice_index}
 use Rattle.std.specs.List.{range_with_len, between}
-use Rattle.std.specs.Option.{option_map, unwrap_or}
+use Rattle.std.specs.Option.{option_map, option_map_or, unwrap_or}
 use Rattle.store.specs.declared.faults.Refusal.TheVariants.{UnfitMemory, BrokenChain}
 use Rattle.store.specs.Faults.{Answer, asks, first_no}
 use Rattle.store.specs.Rows.{Segment, good, bad, bytes_from}
-use Rattle.areas.specs.PlainRows.{whole, Placed}
+use Rattle.areas.specs.PlainRows.{whole}
 
 -- where page p begins
 abbrev pub base_of : ℕ → ℕ
@@ -41,6 +41,11 @@ pub data Ends (m : List ℕ) : ℕ → List ℕ → Type 0 where
 abbrev pub walk : List ℕ → ℕ → ℕ → Option (List ℕ)
 walk m zero p = None
 walk m (suc n) p = cond (page_ok m p) (cond (next_of m p == 0) (Some (p ∷ [])) (option_map (λ ps. p ∷ ps) (walk m n (next_of m p)))) None
+
+-- what a walk from a page on meets, within a number of pages: each page, and None in place of one at which the chain breaks; from 0 on, nothing
+abbrev pub pages_met : List ℕ → ℕ → ℕ → List (Option ℕ)
+pages_met m zero p = cond (p == 0) [] (None ∷ [])
+pages_met m (suc n) p = cond (p == 0) [] (option_map_or (λ q. Some p ∷ pages_met m n q) (step_from m p) (None ∷ []))
 
 -- the answer of the call that looks
 abbrev pub chain_look : List ℕ → ℕ → Answer
@@ -101,20 +106,6 @@ kept_pages m ps = map (kept_of m ps) (range_with_len 0 (length m / 516))
 -- what of the memory no call changes: that much of each page, and the bytes past the last whole page
 abbrev pub chain_kept : List ℕ → List ℕ → List (List ℕ)
 chain_kept m ps = between (length m / 516 * 516) (length m) m ∷ kept_pages m ps
-
-abbrev pub flag : Bool → ℕ
-flag b = cond b 1 0
-
--- an area's index, and what of its memory no call changes
-abbrev pub chain_frame : Bool → ℕ → List ℕ → List ℕ → List (List ℕ)
-chain_frame fits size pages m = (flag fits ∷ size ∷ []) ∷ pages ∷ chain_kept m (used_pages fits size (length m) pages)
-
--- where the bytes of segment i begin
-pub record PagePlaced (m ps : List ℕ) (i size start : ℕ) : Type 0 where
-  pub there : i < length ps
-  pub begins : start ≡ base_of (slice_index ps i) + 4
-  pub marked : mark_of m (slice_index ps i) ≡ 0
-  pub placed : Placed m (row_of m ps) i size start
 
 -- the looking call accepts exactly the first pages from which a chain ends, which then meets each of its pages once
 pub record Looked (m : List ℕ) (first : ℕ) (r : Answer) : Type 0 where

@@ -1,13 +1,14 @@
--- What every store owes of its row, shown of each make. Assumes nothing.
-use Rattle.std.specs.Prelude.{◌≡◌, ℕ, zero, suc, ◌+◌, ◌*◌, ◌/◌, ◌%◌, ◌<◌, ◌≤◌, Bool, true, not, ◌&&◌, List, [], ◌∷◌, length, ◌==◌, ◌≢◌, nat_le, nat_lt, slice_index, slice_index_or}
-use Rattle.std.proofs.Common.{sym, ap, ◌∙◌, ⊎_elim, arith}
-use Rattle.std.proofs.lemmas.List.{get_or_past, get_or-map, length-map}
+-- What every store owes of its row, shown of each cut. Assumes nothing.
+use Rattle.std.specs.Prelude.{◌≡◌, ℕ, zero, suc, ◌+◌, ◌/◌, ◌%◌, ◌<◌, ◌≤◌, true, List, [], ◌∷◌, length, max, slice_index, slice_index_or}
+use Rattle.std.proofs.Common.{refl, sym, ◌∙◌, ⊎_elim, arith}
+use Rattle.std.proofs.lemmas.Grind.{common_steps}
+use Rattle.std.proofs.lemmas.Bool.Decides.{nat_tests}
+use Rattle.std.proofs.lemmas.Bool.{cases_lt}
+use Rattle.std.proofs.lemmas.List.{get_or_past}
 use Rattle.std.proofs.lemmas.List.FromFn.{length-map-range_with_len, get_or-map-range_with_len}
-use Rattle.std.proofs.lemmas.List.Edits.{length-between}
-use Rattle.std.proofs.lemmas.Bool.{and_parts, ltb-true, eqb-true, leb-true, cond_both, cond-true, cond-false, cases_Bool, cases_lt}
 use Rattle.store.specs.Rows.{Segment, good, bad, Proper, bytes_from}
-use Rattle.areas.specs.PlainRows.{whole, plain_segment, plain_row}
-use Rattle.areas.specs.ChainedRows.{base_of, mark_of, in_pool, has, once, indexed, page_segment, row_of, used_pages}
+use Rattle.areas.specs.PlainRows.{whole, parts, plain_row}
+use Rattle.areas.specs.ChainedRows.{base_of, in_pool, once, indexed, page_segment, row_of}
 
 -- what `whole` tells
 pub record Whole (size n : ℕ) : Type 0 where
@@ -16,16 +17,14 @@ pub record Whole (size n : ℕ) : Type 0 where
   pub few : n / size ≤ 65535
 
 pub whole_means : (size n : ℕ) → whole size n ≡ true → Whole size n
-whole_means size n h =
-    let p = and_parts (nat_lt 0 n && n % size == 0) (nat_le (n / size) 65535) h in
-    let q = and_parts (nat_lt 0 n) (n % size == 0) p.0 in
-    record { some = ltb-true 0 n q.0; parts = eqb-true (n % size) 0 q.1; few = leb-true (n / size) 65535 p.1 }
+whole_means size n h = record {
+  some = grind (arith, nat_tests);
+  parts = grind (arith, nat_tests);
+  few = grind (arith, nat_tests);
+}
 
 pub length-bytes_from : (m : List ℕ) (a : ℕ) → a + 512 ≤ length m → length (bytes_from m a) ≡ 512
-length-bytes_from m a h = length-between m a (a + 512) h ∙ omega arith
-
-bad_not_good : (bytes : List ℕ) → bad ≢ good bytes
-bad_not_good bytes e = let z : ◌≡◌ {A = ℕ} 0 1 = cc in omega arith
+length-bytes_from m a inside = grind (arith, common_steps)
 
 -- a row of segments that are each bad or hold 512 bytes
 pub proper_from : (row : List Segment) → 0 < length row → length row ≤ 65535
@@ -33,65 +32,72 @@ pub proper_from : (row : List Segment) → 0 < length row → length row ≤ 655
 proper_from row some few full = record {
   some = some;
   counted = omega arith;
-  full = λ i bytes e.
-      ⊎_elim (λ (l : i < length row). full i bytes l e) (λ (l : length row ≤ i). absurd (bad_not_good bytes (sym (get_or_past row i bad l) ∙ e))) (cases_lt i (length row));
+  full = λ i bytes e. ⊎_elim (λ (l : i < length row). full i bytes l e) (λ (l : length row ≤ i). let past = get_or_past row i bad l in cc) (cases_lt i (length row));
 }
 
-only_bad : (i : ℕ) (bytes : List ℕ) → slice_index_or (bad ∷ []) i bad ≡ good bytes → length bytes ≡ 512
-only_bad zero bytes e = absurd (bad_not_good bytes e)
-only_bad (suc i) bytes e = absurd (bad_not_good bytes e)
-
 pub one_bad : Proper (bad ∷ [])
-one_bad = proper_from (bad ∷ []) (omega arith) (omega arith) (λ i bytes l. only_bad i bytes)
+one_bad = proper_from (bad ∷ []) (omega arith) (omega arith) (λ i bytes l e. let z : i ≡ 0 = omega arith in let past : slice_index_or (bad ∷ []) i bad ≡ bad = rw z refl in cc)
+
+-- the segments of a row side by side
+pub length-plain_row : (m : List ℕ) → length (plain_row m) ≡ max (parts 512 (length m)) 1
+length-plain_row m = grind (arith, nat_tests, length-map-range_with_len)
+
+parts_few : (size n : ℕ) → parts size n ≤ 65535
+parts_few size n = grind (arith, nat_tests)
+
+plain_full : (m : List ℕ) (i : ℕ) (bytes : List ℕ) → slice_index_or (plain_row m) i bad ≡ good bytes → length bytes ≡ 512
+plain_full m i bytes e = grind (arith, nat_tests, common_steps, get_or-map-range_with_len, length-map-range_with_len)
 
 pub plain_proper : (m : List ℕ) → Proper (plain_row m)
 plain_proper m =
-    cond_both (whole 512 (length m)) _ _ Proper
-    (λ h. let w = whole_means 512 (length m) h in
-    let n = length-map-range_with_len (plain_segment m) 0 (length m / 512) in
-    proper_from _ (omega (arith, n, w.some, w.parts)) (omega (arith, n, w.few))
-    (λ i bytes l e.
-    let i< : i < length m / 512 = omega (arith, n) in
-    let s : good (bytes_from m (i * 512)) ≡ good bytes = sym (get_or-map-range_with_len (plain_segment m) 0 (length m / 512) i i bad i< (omega arith)) ∙ e in
-    let b : bytes_from m (i * 512) ≡ bytes = cc in
-    ap length (sym b) ∙ length-bytes_from m (i * 512) (omega arith)))
-    (λ h. one_bad)
+    let n = length-plain_row m in
+    let few = parts_few 512 (length m) in
+    record { some = omega arith; counted = omega arith; full = plain_full m }
 
 -- what `in_pool` and `once` tell
 pub pool_some : (n p : ℕ) → in_pool n p ≡ true → 0 < p
-pool_some n p h = ltb-true 0 p (and_parts (nat_lt 0 p) (nat_le p n) h).0
+pool_some n p h = grind (arith, nat_tests)
 
 pub pool_most : (n p : ℕ) → in_pool n p ≡ true → p ≤ n
-pool_most n p h = leb-true p n (and_parts (nat_lt 0 p) (nat_le p n) h).1
+pool_most n p h = grind (arith, nat_tests)
 
 pub page_within : (m : List ℕ) (p : ℕ) → in_pool (length m / 516) p ≡ true → base_of p + 516 ≤ length m
-page_within m p h = omega (arith, pool_some (length m / 516) p h, pool_most (length m / 516) p h)
+page_within m p h = grind (arith, nat_tests)
 
 pub once_in : (n : ℕ) (ps : List ℕ) (i : ℕ) → once n ps ≡ true → i < length ps → in_pool n (slice_index ps i) ≡ true
 once_in n [] i h l = absurd (omega arith)
-once_in n (p ∷ ps) zero h l = (and_parts (in_pool n p) (not (has p ps)) (and_parts (in_pool n p && not (has p ps)) (once n ps) h).0).0
-once_in n (p ∷ ps) (suc i) h l = once_in n ps i (and_parts (in_pool n p && not (has p ps)) (once n ps) h).1 (omega arith)
+once_in n (p ∷ ps) zero h l = grind (arith, nat_tests)
+once_in n (p ∷ ps) (suc i) h l = grind (arith, nat_tests, once_in n ps i)
+
+-- the segments of a row of pages
+pub length-row_of : (m ps : List ℕ) → length (row_of m ps) ≡ max (length ps) 1
+length-row_of m [] = refl
+length-row_of m (p ∷ ps) = grind (arith, common_steps)
+
+pub row_at : (m ps : List ℕ) (i : ℕ) (d : Segment) → i < length ps → slice_index_or (row_of m ps) i d ≡ page_segment m (slice_index ps i)
+row_at m [] i d l = absurd (omega arith)
+row_at m (p ∷ ps) i d l = grind (arith, common_steps)
+
+pub row_none : (m ps : List ℕ) (i : ℕ) → length ps ≤ i → slice_index_or (row_of m ps) i bad ≡ bad
+row_none m [] i l = grind (arith, common_steps)
+row_none m (p ∷ ps) i l = grind (arith, common_steps)
 
 page_full : (m : List ℕ) (p : ℕ) (bytes : List ℕ) → in_pool (length m / 516) p ≡ true → page_segment m p ≡ good bytes → length bytes ≡ 512
-page_full m p bytes h e =
+page_full m p bytes h e = grind (arith, nat_tests, common_steps)
+
+row_full : (m ps : List ℕ) (i : ℕ) (bytes : List ℕ) → once (length m / 516) ps ≡ true → slice_index_or (row_of m ps) i bad ≡ good bytes → length bytes ≡ 512
+row_full m ps i bytes h e =
     ⊎_elim
-    (λ t. let b : bytes_from m (base_of p + 4) ≡ bytes = (let w = cond-true (mark_of m p == 0) (good (bytes_from m (base_of p + 4))) bad t in cc) in
-    ap length (sym b) ∙ length-bytes_from m (base_of p + 4) (omega (arith, page_within m p h)))
-    (λ t. absurd (bad_not_good bytes (sym (cond-false (mark_of m p == 0) (good (bytes_from m (base_of p + 4))) bad t) ∙ e)))
-    (cases_Bool (mark_of m p == 0))
+    (λ (l : i < length ps). page_full m (slice_index ps i) bytes (once_in (length m / 516) ps i h l) (sym (row_at m ps i bad l) ∙ e))
+    (λ (l : length ps ≤ i). let n = row_none m ps i l in cc)
+    (cases_lt i (length ps))
 
-pages_proper : (m ps : List ℕ) → length ps ≤ 65535 → once (length m / 516) ps ≡ true → Proper (row_of m ps)
-pages_proper m [] few h = one_bad
-pages_proper m (p ∷ ps) few h =
-    let n = length-map (p ∷ ps) (page_segment m) in
-    proper_from (row_of m (p ∷ ps)) (omega (arith, n)) (omega (arith, n))
-    (λ i bytes l e. let i< : i < length (p ∷ ps) = omega (arith, n) in
-    page_full m (slice_index (p ∷ ps) i) bytes (once_in (length m / 516) (p ∷ ps) i h i<) (sym (get_or-map (page_segment m) (p ∷ ps) i 0 bad i<) ∙ e))
-
-pub chain_proper : (m : List ℕ) (fits : Bool) (size : ℕ) (pages : List ℕ) → indexed size pages ≡ true → Proper (row_of m (used_pages fits size (length m) pages))
-chain_proper m fits size pages h =
-    let p = and_parts (nat_le (length pages) 65535) (once (size / 516) pages) h in
-    cond_both (fits && size == length m) pages [] (λ ps. Proper (row_of m ps))
-    (λ t. let e = eqb-true size (length m) (and_parts fits (size == length m) t).1 in
-    pages_proper m pages (leb-true (length pages) 65535 p.0) (ap (λ n. once (n / 516) pages) (sym e) ∙ p.1))
-    (λ t. one_bad)
+pub chain_proper : (m ps : List ℕ) → indexed (length m) ps ≡ true → Proper (row_of m ps)
+chain_proper m ps h =
+    let few : length ps ≤ 65535 = grind (arith, nat_tests) in
+    let all : once (length m / 516) ps ≡ true = grind (arith, nat_tests) in
+    record {
+      some = omega (arith, length-row_of m ps);
+      counted = omega (arith, length-row_of m ps);
+      full = λ i bytes e. row_full m ps i bytes all e;
+    }

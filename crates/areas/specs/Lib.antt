@@ -1,4 +1,6 @@
+pub mod Cuts
 pub mod PlainRows
 pub mod ChainedRows
+pub mod Pages
 pub mod Laws
 pub mod Areas

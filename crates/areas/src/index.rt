@@ -2,11 +2,14 @@
 //!
 //! A page is 516 bytes: the next page's number (two bytes, high byte first), a mark
 //! (0 good, 1 bad), a zero byte and a segment. Pages are numbered from 1; 0 ends a chain.
-ghost use Rattle.std.specs.Prelude.{◌≡◌, ◌/◌, true, length, is_some, IfOk};
-ghost use Rattle.areas.specs.ChainedRows.{step_from, walk, pages_from, leads_through, fits_pool, indexed};
+ghost use Rattle.std.specs.Prelude.{◌≡◌, ◌/◌, true, ◌∷◌, length, is_some, ◌≢◌, IfOk};
+ghost use Rattle.std.specs.Iterator.{YieldsFirst, item_count};
+ghost use Rattle.areas.specs.ChainedRows.{step_from, walk, pages_from, leads_through, fits_pool, indexed, pages_met};
+ghost use Rattle.areas.specs.Pages.{ahead};
 
 use super::plain::is_whole;
 use std::alloc::{AllocError, Global};
+use std::mem;
 
 /// The bytes of a page.
 pub const PAGE: usize = 516;
@@ -14,14 +17,11 @@ pub const PAGE: usize = 516;
 /// The place of a page's mark.
 pub(crate) const MARK: usize = 2;
 
-/// The place of its zero byte.
-const ZERO: usize = 3;
-
 /// The place of its segment.
 pub(crate) const HEAD: usize = 4;
 
 /// The index of a chain: its pages in their order, none where `ChainedArea::look` refuses it.
-#[derive(Drop)]
+#[derive(Debug, Drop)]
 pub struct Chain {
     pub(crate) pages: Vec<u16>,
     pub(crate) first: u16,
@@ -34,31 +34,66 @@ pub struct Chain {
 fn next_page(memory: &[u8], page: u16) -> Option<u16>
     ensures { result ≡ step_from memory.now page }
 {
-    if page == 0 || page as usize > memory.len() / PAGE {
-        return None;
+    let base = usize::from(page).checked_sub(1)? * PAGE;
+    match memory.get(base..base + PAGE)? {
+        [high, low, 0 | 1, 0, ..] => Some(u16::from_be_bytes([*high, *low])),
+        _ => None,
     }
-    let base = (page as usize - 1) * PAGE;
-    if memory[base + MARK] > 1 || memory[base + ZERO] != 0 {
-        return None;
+}
+
+/// The pages of a chain in their order, and `None` in place of one at which the chain breaks:
+/// it is not as it should be, or one more than there are.
+#[derive(Drop)]
+struct Pages<'a> {
+    memory: &'a [u8],
+    // 0 is the page format's own end of a chain.
+    next: u16,
+    left: usize,
+}
+
+impl<'a> Pages<'a> {
+    fn new(memory: &'a [u8], first: u16) -> Pages<'a>
+        ensures { ahead result ≡ pages_met memory.now (length memory.now / 516) first }
+    {
+        Pages {
+            memory,
+            next: first,
+            left: memory.len() / PAGE,
+        }
     }
-    Some(u16::from_be_bytes([memory[base], memory[base + 1]]))
+
+    /// The page that comes next, if the chain does not break at it.
+    fn meet(&mut self) -> Option<u16>
+        requires { self.old.next ≢ 0 }
+        ensures { ahead self.old ≡ result ∷ ahead self.new }
+    {
+        let page = mem::take(&mut self.next);
+        self.left = self.left.checked_sub(1)?;
+        self.next = next_page(self.memory, page)?;
+        Some(page)
+    }
+}
+
+impl Iterator for Pages<'_> {
+    type Item = Option<u16>;
+
+    ghost next_gives = { YieldsFirst ahead };
+
+    ghost remaining = { item_count ahead };
+
+    fn next(&mut self) -> Option<Self::Item> {
+        if self.next == 0 {
+            return None;
+        }
+        Some(self.meet())
+    }
 }
 
 /// Whether the chain from a page on ends, within as many pages as there are.
 pub(crate) fn ends(memory: &[u8], first: u16) -> bool
     ensures { result ≡ is_some (walk memory.now (length memory.now / 516) first) }
 {
-    let mut page = first;
-    for _i in 0..memory.len() / PAGE {
-        let Some(next) = next_page(memory, page) else {
-            return false;
-        };
-        if next == 0 {
-            return true;
-        }
-        page = next;
-    }
-    false
+    first != 0 && Pages::new(memory, first).all(|page| page.is_some())
 }
 
 fn pages_of(heap: Global, memory: &[u8], first: u16) -> Result<Vec<u16>, AllocError>
@@ -68,35 +103,13 @@ fn pages_of(heap: Global, memory: &[u8], first: u16) -> Result<Vec<u16>, AllocEr
     if !is_whole(PAGE, memory.len()) {
         return Ok(pages);
     }
-    let mut page = first;
-    for _i in 0..memory.len() / PAGE {
-        let Some(next) = next_page(memory, page) else {
+    for page in Pages::new(memory, first) {
+        let Some(page) = page else {
             return Ok(Vec::new(heap));
         };
         pages.push(page)?;
-        if next == 0 {
-            return Ok(pages);
-        }
-        page = next;
     }
-    Ok(Vec::new(heap))
-}
-
-/// Whether the pages from `first` on are those listed, the last naming 0.
-fn leads_along(memory: &[u8], first: u16, pages: &[u16]) -> bool
-    ensures { result ≡ leads_through memory.now first pages.now }
-{
-    let mut page = first;
-    for listed in pages {
-        if *listed != page {
-            return false;
-        }
-        let Some(next) = next_page(memory, page) else {
-            return false;
-        };
-        page = next;
-    }
-    page == 0
+    Ok(pages)
 }
 
 impl Chain {
@@ -104,9 +117,11 @@ impl Chain {
     pub fn of(heap: Global, memory: &[u8], first: u16) -> Result<Chain, AllocError>
         ensures { IfOk result (λ ch. (ch.pages.items ≡ pages_from memory.now first) × (ch.first ≡ first) × (ch.size ≡ length memory.now)) }
     {
-        let pages = pages_of(heap, memory, first)?;
-        let size = memory.len();
-        Ok(Chain { pages, first, size })
+        Ok(Chain {
+            pages: pages_of(heap, memory, first)?,
+            first,
+            size: memory.len(),
+        })
     }
 
     /// Whether the index lists the pages of its chain in this pool.
@@ -115,6 +130,6 @@ impl Chain {
     {
         self.size == memory.len()
             && is_whole(PAGE, memory.len())
-            && leads_along(memory, self.first, &self.pages)
+            && Pages::new(memory, self.first).eq(self.pages.iter().copied().map(Some))
     }
 }

@@ -1,4 +1,6 @@
 //! Areas made over the caller's memory for one call, and what that memory holds afterwards.
+// Pool and chain are not one struct: one that held both would forget the lent memory. `means` is true of every
+// chain and pool, and stands where its reader needs it.
 ghost use Rattle.std.specs.Prelude.{◌≡◌, ℕ, List, length, Err};
 ghost use Rattle.store.specs.Faults.{named};
 ghost use Rattle.store.specs.declared.faults.Fault.{Fault};

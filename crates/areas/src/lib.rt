@@ -2,6 +2,7 @@
 
 #![tactic(auto)]
 
+mod area;
 pub mod chained;
 pub mod index;
 pub mod lends;

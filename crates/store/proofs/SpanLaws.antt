@@ -1,96 +1,73 @@
 -- Probing, reading and writing several segments, a segment at a time. Assumes nothing.
-use Rattle.std.proofs.Common.{◌≡◌, ℕ, zero, suc, ◌+◌, ◌-◌, ◌*◌, ◌/◌, ◌%◌, ◌^◌, ◌<◌, ◌≤◌, true, eqb, ◌⊎◌, List, ◌++◌, length, get_or, take, drop, set, Ok, Err, sym, refl, ap, ◌∙◌, subst, ap₂, inl, inr, ⊎_elim, add-one, arith, length-append, length-drop, take-add, drop_at}
-use lib.Seq.{take-append-le, drop-append-le}
+use Rattle.std.proofs.lemmas.Grind.{common_steps}
+use Rattle.std.proofs.Common.{◌≡◌, ℕ, zero, suc, ◌+◌, ◌-◌, ◌*◌, ◌^◌, ◌<◌, ◌≤◌, ◌⊎◌, List, ◌++◌, length, get_or, take, drop, set, Ok, Err, sym, refl, ap, ◌∙◌, subst, ap₂, inl, inr, ⊎_elim, add-one, arith, length-append, take-add}
 use borrow.Rule.Slice.PartMut.{put_mid}
 use Rattle.std.proofs.lemmas.List.{get_or-set_same, get_or-set_other, take_all}
 use Rattle.std.proofs.lemmas.Slice.{take-put_mid}
-use Rattle.std.proofs.lemmas.Bool.{cases_lt, cond-true, eq-eqb}
+use Rattle.std.proofs.lemmas.Bool.{cases_lt}
 use Rattle.store.specs.declared.faults.Fault.{Fault}
 use Rattle.store.specs.Faults.{Answer, and_then, only_if, named}
-use Rattle.store.specs.Rows.{Segment, good, bad, is_good, bytes_of, goods, Proper, answer, read_after, write_after, bytes_from}
-use Rattle.store.specs.Spans.{span, probe, span_answer, put, copy_answer, Wrote}
-use Rattle.store.proofs.Answering.{refused_not_done, allowed_means, goods-set, answer-goods}
-
-named_done : (file : ℕ) (a : Answer) (u : Unit {0}) → Ok u ≡ named file a → a ≡ Ok tt
-named_done file (Ok u) v e = refl
-named_done file (Err f) v e = absurd (refused_not_done v _ (sym e))
-
-named_refused : (file : ℕ) (a : Answer) (f : Fault) → Err f ≡ named file a → (g : Fault) × (a ≡ Err g)
-named_refused file (Ok u) f e = absurd (refused_not_done u f e)
-named_refused file (Err g) f e = (g, refl)
+use Rattle.store.specs.Rows.{Segment, good, bad, bytes_of, goods, Proper, answer, read_after, write_after, bytes_from}
+use Rattle.store.specs.Spans.{span, probe, span_answer, IsProbed, put, Wrote}
+use Rattle.store.proofs.Answering.{allowed_means, goods-set, answer-goods}
 
 -- the steps of a probe
 pub probe_passed : (row : List Segment) (file first i size : ℕ) (a : Answer) (u : Unit {0}) → probe row first i ≡ Ok tt → size ≡ 512 → a ≡ answer row (first + i) size → Ok u ≡ named file a
     → probe row first (i + 1) ≡ Ok tt
-probe_passed row file first i size a u e s h d =
-    let p : probe row first (suc i) ≡ Ok tt = ap (λ b. and_then b (answer row (first + i) 512)) e ∙ ap (answer row (first + i)) (sym s) ∙ sym h ∙ named_done file a u d in
-    rw add-one p
+probe_passed row file first i size a u before fit is done = grind arith
+
+named_refused : (file : ℕ) (a : Answer) (f : Fault) → Err f ≡ named file a → (g : Fault) × (a ≡ Err g)
+named_refused file a f refused = grind arith
 
 refused_stays : (row : List Segment) (first : ℕ) (f : Fault) (m n : ℕ) → m ≤ n → probe row first m ≡ Err f → probe row first n ≡ Err f
-refused_stays row first f m zero h e = let z : m ≡ 0 = omega arith in subst (λ k. probe row first k ≡ Err f) z e
-refused_stays row first f m (suc n) h e =
+refused_stays row first f m zero l e = let z : m ≡ 0 = omega arith in subst (λ k. probe row first k ≡ Err f) z e
+refused_stays row first f m (suc n) l e =
     ⊎_elim
-    (λ (l : m < suc n). let k : m ≤ n = omega arith in ap (λ b. and_then b (answer row (first + n) 512)) (refused_stays row first f m n k e))
-    (λ (l : suc n ≤ m). let z : m ≡ suc n = omega arith in subst (λ k. probe row first k ≡ Err f) z e)
-    (cases_lt m (suc n))
+    (λ (k : n < m). let z : m ≡ suc n = omega arith in subst (λ k. probe row first k ≡ Err f) z e)
+    (λ (k : m ≤ n). ap (λ a. and_then a (answer row (first + n) 512)) (refused_stays row first f m n k e))
+    (cases_lt n m)
 
 pub probe_refused : (row : List Segment) (file first i n size : ℕ) (a : Answer) (f : Fault) → probe row first i ≡ Ok tt → i < n → size ≡ 512 → a ≡ answer row (first + i) size → Err f ≡ named file a
     → Err f ≡ named file (probe row first n)
-probe_refused row file first i n size a f e l s h d =
-    let r = named_refused file a f d in
-    let p : probe row first (suc i) ≡ Err r.0 = ap (λ b. and_then b (answer row (first + i) 512)) e ∙ ap (answer row (first + i)) (sym s) ∙ sym h ∙ r.1 in
-    d ∙ ap (named file) (r.1 ∙ sym (refused_stays row first r.0 (suc i) n (omega arith) p))
+probe_refused row file first i n size a f before l fit is refused =
+    let r = named_refused file a f refused in
+    let p : probe row first (suc i) ≡ Err r.0 = grind arith in
+    refused ∙ ap (named file) (r.1 ∙ sym (refused_stays row first r.0 (suc i) n (omega arith) p))
 
 and_done : (a b : Answer) → and_then a b ≡ Ok tt → (a ≡ Ok tt) × (b ≡ Ok tt)
-and_done (Ok u) b e = (refl, e)
-and_done (Err f) b e = absurd (refused_not_done tt f e)
+and_done a b both = grind arith
 
 -- each segment of a span that was probed may be read and written
-pub probed : (row : List Segment) (first n i : ℕ) → probe row first n ≡ Ok tt → i < n → answer row (first + i) 512 ≡ Ok tt
-probed row first zero i e l = absurd (omega arith)
-probed row first (suc n) i e l =
-    let p = and_done (probe row first n) (answer row (first + n) 512) e in
-    ⊎_elim
-    (λ (k : i < n). probed row first n i p.0 k)
-    (λ (k : n ≤ i). let z : n ≡ i = omega arith in subst (λ j. answer row (first + j) 512 ≡ Ok tt) z p.1)
-    (cases_lt i n)
-
 probe_front : (row : List Segment) (first i n : ℕ) → i ≤ n → probe row first n ≡ Ok tt → probe row first i ≡ Ok tt
 probe_front row first i zero l e = let z : 0 ≡ i = omega arith in subst (λ k. probe row first k ≡ Ok tt) z e
 probe_front row first i (suc n) l e =
     ⊎_elim
-    (λ (k : i < suc n). probe_front row first i n (omega arith) (and_done (probe row first n) (answer row (first + n) 512) e).0)
-    (λ (k : suc n ≤ i). let z : suc n ≡ i = omega arith in subst (λ j. probe row first j ≡ Ok tt) z e)
-    (cases_lt i (suc n))
+    (λ (k : n < i). let z : suc n ≡ i = omega arith in subst (λ j. probe row first j ≡ Ok tt) z e)
+    (λ (k : i ≤ n). probe_front row first i n k (and_done (probe row first n) (answer row (first + n) 512) e).0)
+    (cases_lt n i)
+
+pub probed : (row : List Segment) (first n i : ℕ) → probe row first n ≡ Ok tt → i < n → answer row (first + i) 512 ≡ Ok tt
+probed row first n i e l = let p : probe row first (suc i) ≡ Ok tt = probe_front row first (suc i) n (omega arith) e in grind arith
 
 -- so the number of the next one is no larger than the count
-pub next_fits : (row : List Segment) (first i : ℕ) → Proper row → first < 2 ^ 64 → probe row first i ≡ Ok tt → first + i < 2 ^ 64
-next_fits row first zero p h e = omega arith
-next_fits row first (suc i) p h e = omega (arith, p.counted, (allowed_means row (first + i) 512 (probed row first (suc i) i e (omega arith))).there)
-
 pub number_fits : (row : List Segment) (first i n : ℕ) → Proper row → first < 2 ^ 64 → i ≤ n → probe row first n ≡ Ok tt → first + i < 2 ^ 64
-number_fits row first i n p h l e = next_fits row first i p h (probe_front row first i n l e)
+number_fits row first i n proper fits l e = grind arith
 
 pub never_refused : (row : List Segment) (file first n i size : ℕ) (a : Answer) (f : Fault) → probe row first n ≡ Ok tt → i < n → size ≡ 512 → a ≡ answer row (first + i) size → Err f ≡ named file a → ⊥
-never_refused row file first n i size a f e l s h d =
-    let r = named_refused file a f d in
-    refused_not_done tt r.0 (sym r.1 ∙ h ∙ ap (answer row (first + i)) s ∙ probed row first n i e l)
+never_refused row file first n i size a f e l fit is refused = let p = probed row first n i e l in grind arith
 
 -- the three ways that a span is answered
 pub probe_done : (row : List Segment) (file first n : ℕ) (u : Unit {0}) → Ok u ≡ named file (probe row first n) → probe row first n ≡ Ok tt
-probe_done row file first n u e = named_done file (probe row first n) u e
+probe_done row file first n u done = grind arith
 
-span_asked : (row : List Segment) (first size : ℕ) → size % 512 ≡ 0 → span_answer row first size ≡ probe row first (size / 512)
-span_asked row first size h = cond-true (eqb (size % 512) 0) _ _ (eq-eqb (size % 512) 0 h)
-
-pub span_done : (row : List Segment) (first size : ℕ) → size % 512 ≡ 0 → probe row first (size / 512) ≡ Ok tt → span_answer row first size ≡ Ok tt
-span_done row first size h e = span_asked row first size h ∙ e
+pub span_done : (row : List Segment) (first size n : ℕ) → IsProbed row first size n → span_answer row first size ≡ Ok tt
+span_done row first size n p = grind arith
 
 pub only_done : {X : Type 0} (a : Answer) (new old : X) → a ≡ Ok tt → only_if a new old ≡ new
-only_done a new old e = ap (λ b. only_if b new old) e
+only_done a new old done = cc
 
 pub only_refused : {X : Type 0} (file : ℕ) (a : Answer) (f : Fault) (new old : X) → Err f ≡ named file a → only_if a new old ≡ old
-only_refused file a f new old e = ap (λ b. only_if b new old) (named_refused file a f e).1
+only_refused file a f new old refused = grind arith
 
 -- a segment read into its part of the buffer
 pub read_more : (row : List Segment) (first i k : ℕ) (buffer part ys : List ℕ)
@@ -117,7 +94,7 @@ put-goods row first (suc n) bytes e =
     let p = and_done (probe row first n) (answer row (first + n) 512) e in
     let g = put-goods row first n bytes p.0 in
     let a = allowed_means before (first + n) 512 (answer-goods row before (first + n) 512 g ∙ p.1) in
-    goods-set before (first + n) (bytes_from bytes (n * 512)) a.holds a.there ∙ g
+    goods-set before (first + n) (bytes_from bytes (n * 512)) a.holds ∙ g
 
 put_other : (row : List Segment) (first n : ℕ) (bytes : List ℕ) (i : ℕ) → (i < first) ⊎ (first + n ≤ i) → get_or (put row first n bytes) i bad ≡ get_or row i bad
 put_other row first zero bytes i o = refl
@@ -176,12 +153,8 @@ put_more row row' row'' first n i bytes part e l h q s w =
     rw add-one step
 
 -- the segments of a span that was probed hold 512 bytes each
-full_bytes : (row : List Segment) (s : Segment) (i : ℕ) → Proper row → get_or row i bad ≡ s → is_good s ≡ true → length (bytes_of s) ≡ 512
-full_bytes row (good bytes) i p h g = p.full i bytes h
-full_bytes row bad i p h g = absurd (let z : ◌≡◌ {A = ℕ} 0 1 = cc in omega arith)
-
 pub full_segment : (row : List Segment) (i size : ℕ) → Proper row → answer row i size ≡ Ok tt → length (bytes_of (get_or row i bad)) ≡ 512
-full_segment row i size p a = full_bytes row (get_or row i bad) i p refl (allowed_means row i size a).holds
+full_segment row i size proper done = grind arith
 
 pub length-span : (row : List Segment) (first n : ℕ) → Proper row → probe row first n ≡ Ok tt → length (span row first n) ≡ n * 512
 length-span row first zero p e = refl
@@ -192,12 +165,10 @@ length-span row first (suc n) p e =
     simp length-append (omega arith)
 
 bytes_left : (xs ys : List ℕ) (a : ℕ) → a + 512 ≤ length xs → bytes_from (xs ++ ys) a ≡ bytes_from xs a
-bytes_left xs ys a h =
-    let n : a + 512 - a ≤ length (drop a xs) = simp length-drop (omega arith) in
-    ap (take (a + 512 - a)) (drop-append-le a xs ys (omega arith)) ∙ take-append-le (a + 512 - a) (drop a xs) ys n
+bytes_left xs ys a inside = grind (arith, common_steps)
 
 bytes_right : (xs ys : List ℕ) (a : ℕ) → length xs ≡ a → length ys ≡ 512 → bytes_from (xs ++ ys) a ≡ ys
-bytes_right xs ys a h l = ap (take (a + 512 - a)) (drop_at xs ys a h) ∙ take_all (a + 512 - a) ys (omega arith)
+bytes_right xs ys a left right = grind (arith, common_steps)
 
 pub span_at : (row : List Segment) (first n i : ℕ) → Proper row → probe row first n ≡ Ok tt → i < n → bytes_from (span row first n) (i * 512) ≡ bytes_of (get_or row (first + i) bad)
 span_at row first zero i p e l = absurd (omega arith)
@@ -210,7 +181,3 @@ span_at row first (suc n) i p e l =
     (λ (k : n ≤ i). let z : i ≡ n = omega arith in
     ap (λ j. bytes_from (span row first n ++ x) (j * 512)) z ∙ bytes_right (span row first n) x (n * 512) m (full_segment row (first + n) 512 p q.1) ∙ ap (λ j. bytes_of (get_or row (first + j) bad)) (sym z))
     (cases_lt i n)
-
--- a copy asks the row that is read first
-pub copy_asked : (from to : List Segment) (first n : ℕ) → probe from first n ≡ Ok tt → copy_answer from to first n ≡ probe to first n
-copy_asked from to first n e = ap (λ a. and_then a (probe to first n)) e

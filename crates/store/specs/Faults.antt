@@ -1,6 +1,8 @@
 -- Why a store refuses, and the fault that says so. Assumes nothing.
-use Rattle.std.specs.Prelude.{ℕ, Bool, cond, List, [], ◌∷◌, ◌++◌, Ok, Err, codes, decimal, Result}
+use Rattle.std.specs.Prelude.{ℕ, Bool, if◌then◌else◌, List, [], ◌∷◌, ◌++◌, Ok, Err, codes, decimal, Result}
 use Rattle.store.specs.declared.faults.Fault.{Fault}
+use Rattle.store.specs.declared.faults.Layer.{Layer}
+use Rattle.store.specs.declared.faults.Layer.TheVariants.{Store, File, Ledger}
 use Rattle.store.specs.declared.faults.Refusal.{Refusal}
 use Rattle.store.specs.declared.faults.Refusal.TheVariants.{WrongBuffer, NoSegment, BadSegment, UnfitMemory, BrokenChain}
 
@@ -24,9 +26,14 @@ segment_of (BadSegment i) = i
 segment_of UnfitMemory = 0
 segment_of BrokenChain = 0
 
--- a store is layer 1, and knows of no file
+abbrev pub layer_number : Layer → ℕ
+layer_number Store = 1
+layer_number File = 2
+layer_number Ledger = 3
+
+-- a store knows of no file
 abbrev pub fault_of : Refusal → Fault
-fault_of r = record { number = number_of r; layer = 1; file = 0; segment = segment_of r }
+fault_of r = record { number = number_of r; layer = Store; file = 0; segment = segment_of r }
 
 -- a question before a step, with the fault that a no gives
 pub record Question : Type 0 where
@@ -39,7 +46,7 @@ asks b r = record { yes = b; otherwise = fault_of r }
 -- the first no decides
 abbrev pub first_no : List Question → Answer
 first_no [] = Ok tt
-first_no (q ∷ qs) = cond q.yes (first_no qs) (Err q.otherwise)
+first_no (q ∷ qs) = if q.yes then first_no qs else Err q.otherwise
 
 -- one step after another: the first refusal stands
 abbrev pub and_then : Answer → Answer → Answer
@@ -62,4 +69,4 @@ named n (Err f) = Err (with_file n f)
 -- how a fault is written
 abbrev pub text_of : Fault → List ℕ
 text_of f =
-    codes "refused " ++ (decimal f.number ++ (codes " layer " ++ (decimal f.layer ++ (codes " file " ++ (decimal f.file ++ (codes " segment " ++ decimal f.segment))))))
+    codes "refused " ++ decimal f.number ++ codes " layer " ++ decimal (layer_number f.layer) ++ codes " file " ++ decimal f.file ++ codes " segment " ++ decimal f.segment

@@ -1,5 +1,6 @@
 -- What a store means: a row of segments, and what reading and writing one of them does. Assumes nothing.
 use Rattle.std.specs.Prelude.{◌≡◌, ℕ, ◌+◌, ◌^◌, ◌<◌, Bool, true, false, List, [], ◌∷◌, map, length, ◌==◌, nat_lt, slice_index_or, slice_set}
+use Rattle.std.specs.Borrow.{GName}
 use Rattle.std.specs.List.{between}
 use Rattle.store.specs.declared.faults.Refusal.TheVariants.{WrongBuffer, NoSegment, BadSegment}
 use Rattle.store.specs.Faults.{Answer, asks, first_no, only_if}
@@ -30,6 +31,12 @@ pub record Proper (row : List Segment) : Type 0 where
   pub some : 0 < length row
   pub counted : length row < 2 ^ 64
   pub full : (i : ℕ) (bytes : List ℕ) → slice_index_or row i bad ≡ good bytes → length bytes ≡ 512
+
+-- what of a store no call changes: the names of the memory that is lent to it, which its lender has again when the store
+-- is let go, and what it holds beside its row
+pub record Fixed : Type 0 where
+  pub lent : List GName
+  pub frame : List (List ℕ)
 
 -- the answer to a read or a write of segment i with a buffer of some size
 abbrev pub answer : List Segment → ℕ → ℕ → Answer

@@ -1,7 +1,7 @@
 -- Several segments, one behind another. Assumes nothing.
-use Rattle.std.specs.Prelude.{◌≡◌, ℕ, zero, suc, ◌+◌, ◌*◌, ◌/◌, ◌%◌, ◌≤◌, cond, ◌⊎◌, List, [], ◌++◌, length, Ok, Err, ◌==◌, slice_index_or, slice_set}
+use Rattle.std.specs.Prelude.{◌≡◌, ℕ, zero, suc, ◌+◌, ◌*◌, ◌/◌, ◌%◌, ◌≤◌, ◌⊎◌, List, [], ◌∷◌, ◌++◌, length, Ok, ◌==◌, slice_index_or, slice_set}
 use Rattle.store.specs.declared.faults.Refusal.TheVariants.{WrongBuffer}
-use Rattle.store.specs.Faults.{Answer, fault_of, only_if, and_then}
+use Rattle.store.specs.Faults.{Answer, asks, first_no, only_if, and_then}
 use Rattle.store.specs.Rows.{Segment, good, bad, bytes_of, goods, answer, bytes_from}
 
 -- the bytes of n segments from the first on
@@ -16,7 +16,12 @@ probe row first (suc n) = and_then (probe row first n) (answer row (first + n) 5
 
 -- the answer to a span that is read or written with a buffer of some size
 abbrev pub span_answer : List Segment → ℕ → ℕ → Answer
-span_answer row first size = cond (size % 512 == 0) (probe row first (size / 512)) (Err (fault_of WrongBuffer))
+span_answer row first size = and_then (first_no (asks (size % 512 == 0) WrongBuffer ∷ [])) (probe row first (size / 512))
+
+-- a buffer of some size is n segments, and as many are there and good from the first on
+pub record IsProbed (row : List Segment) (first size n : ℕ) : Type 0 where
+  pub whole : size ≡ n * 512
+  pub there : probe row first n ≡ Ok tt
 
 -- the buffer after a span is read
 abbrev pub read_span_after : List Segment → ℕ → List ℕ → List ℕ

@@ -1,9 +1,11 @@
 //! Refusals: what a store says no with, and how that is handed up.
 ghost use Rattle.std.specs.Prelude.{◌≡◌, Some};
-ghost use Rattle.store.specs.Faults.{fault_of, with_file, named, text_of};
+ghost use Rattle.store.specs.Faults.{layer_number, fault_of, with_file, named, text_of};
 
+use std::error::Error;
 use std::fmt;
 
+// Files are numbers and no enum: a caller may name any, and a narrower type would refuse him.
 /// No file, in a fault.
 pub const NO_FILE: u8 = 0;
 
@@ -13,13 +15,33 @@ pub const MOTHER_FILE: u8 = 1;
 /// The file of movements: what became of a gyle or an item, such as a racking.
 pub const MOVEMENT_FILE: u8 = 2;
 
+/// Who refuses: as a number, 1 a store, 2 a file, 3 a ledger.
+#[derive(Clone, Copy, PartialEq, Eq, Debug)]
+pub enum Layer {
+    Store,
+    File,
+    Ledger,
+}
+
+impl From<Layer> for u8 {
+    ghost from_gives = { λ layer n. n ≡ layer_number layer };
+
+    fn from(layer: Layer) -> u8 {
+        match layer {
+            Layer::Store => 1,
+            Layer::File => 2,
+            Layer::Ledger => 3,
+        }
+    }
+}
+
 /// A refusal, as every layer hands it up.
 #[derive(Clone, Copy, PartialEq, Eq, Debug)]
 pub struct Fault {
     /// The question that was answered no.
+    // A number and no enum: each layer has questions of its own.
     pub number: u8,
-    /// 1 for a store, 2 for a file, 3 for a ledger.
-    pub layer: u8,
+    pub layer: Layer,
     /// `NO_FILE`, `MOTHER_FILE` or `MOVEMENT_FILE`.
     pub file: u8,
     /// The segment in question, 0 where there is none.
@@ -27,7 +49,7 @@ pub struct Fault {
 }
 
 /// The refusals of a store.
-#[derive(Clone, Copy)]
+#[derive(Clone, Copy, PartialEq, Eq, Debug)]
 pub enum Refusal {
     /// 11: the buffer is not 512 bytes, or for a span no whole number of segments.
     WrongBuffer,
@@ -41,11 +63,11 @@ pub enum Refusal {
     BrokenChain,
 }
 
-impl Refusal {
-    pub fn fault(self) -> Fault
-        ensures { result ≡ fault_of self }
-    {
-        let (number, segment) = match self {
+impl From<Refusal> for Fault {
+    ghost from_gives = { λ refusal fault. fault ≡ fault_of refusal };
+
+    fn from(refusal: Refusal) -> Fault {
+        let (number, segment) = match refusal {
             Refusal::WrongBuffer => (11, 0),
             Refusal::NoSegment(segment) => (12, segment),
             Refusal::BadSegment(segment) => (13, segment),
@@ -54,7 +76,7 @@ impl Refusal {
         };
         Fault {
             number,
-            layer: 1,
+            layer: Layer::Store,
             file: NO_FILE,
             segment,
         }
@@ -74,18 +96,16 @@ impl Fault {
 pub fn of_file(file: u8, outcome: Result<(), Fault>) -> Result<(), Fault>
     ensures { result ≡ named file outcome }
 {
-    match outcome {
-        Ok(()) => Ok(()),
-        Err(fault) => Err(fault.in_file(file)),
-    }
+    outcome.map_err(|fault| fault.in_file(file))
 }
 
+// By hand, since a derived message promises no text.
 impl fmt::Display for Fault {
     ghost output = { λ f. Some (text_of f) };
 
     fn fmt<W: fmt::Write>(&self, f: &mut fmt::Formatter<W>) -> fmt::Result {
         let number = self.number;
-        let layer = self.layer;
+        let layer = u8::from(self.layer);
         let file = self.file;
         let segment = self.segment;
         write!(
@@ -94,3 +114,5 @@ impl fmt::Display for Fault {
         )
     }
 }
+
+impl Error for Fault {}

@@ -2,9 +2,8 @@
 //! calls. `spans` has what files do with them: several segments, one behind another.
 #![tactic(auto)]
 
-ghost use Rattle.std.specs.Borrow.{GName};
-ghost use Rattle.std.specs.Prelude.{◌≡◌, ℕ, List, length};
-ghost use Rattle.store.specs.Rows.{Segment, Proper, goods, answer, read_after, write_after};
+ghost use Rattle.std.specs.Prelude.{◌≡◌, List, length};
+ghost use Rattle.store.specs.Rows.{Segment, Fixed, Proper, goods, answer, read_after, write_after};
 
 pub mod faults;
 pub mod spans;
@@ -19,14 +18,8 @@ pub trait SegmentStore {
     // The row that the store stands for.
     ghost row: { Self → List Segment };
 
-    // A row has a segment, and each good one holds 512 bytes.
-    ghost proper: { (s : Self) → Proper (row s) };
-
-    // The names of the memory that is lent to the store: its lender has it again when the store is let go.
-    ghost lent: { Self → List GName };
-
-    // What the store holds beside its row, which no call changes.
-    ghost frame: { Self → List (List ℕ) };
+    // What beside the row is the store's, and stays as it is.
+    ghost fixed: { Self → Fixed };
 
     fn count(&self) -> usize
         ensures { result ≡ length (row self.now) };
@@ -41,6 +34,8 @@ pub trait SegmentStore {
         ensures value { result ≡ answer (row self.old) segment (length buffer.now) }
         ensures after { row self.new ≡ write_after (row self.old) segment buffer.now }
         ensures marks { goods (row self.new) ≡ goods (row self.old) }
-        ensures kept { lent self.new ≡ lent self.old }
-        ensures framed { frame self.new ≡ frame self.old };
+        ensures kept { fixed self.new ≡ fixed self.old };
+
+    // A row has a segment, and each good one holds 512 bytes.
+    ghost proper: { (s : Self) → Proper (row s) };
 }

@@ -5,16 +5,16 @@ use areas::index::Chain;
 use areas::plain::PlainArea;
 use std::test::Fail;
 use store::SegmentStore;
-use store::faults::{Fault, Refusal};
+use store::faults::{Fault, Layer, Refusal};
 
 #[test]
 fn a_fault_says_all(rt: HostRuntime) -> Result<(), Fail> {
-    let fault = Refusal::BadSegment(70_000).fault().in_file(2);
+    let fault = Fault::from(Refusal::BadSegment(70_000)).in_file(2);
     assert_eq!(rt;
         fault,
         Fault {
             number: 13,
-            layer: 1,
+            layer: Layer::Store,
             file: 2,
             segment: 70_000,
         }
@@ -22,12 +22,20 @@ fn a_fault_says_all(rt: HostRuntime) -> Result<(), Fail> {
     let text = format!(in rt.alloc(); "{fault}")?;
     assert!(rt; text.as_str() == "refused 13 layer 1 file 2 segment 70000");
     let all = [
-        said(Err(Refusal::WrongBuffer.fault())),
-        said(Err(Refusal::NoSegment(9).fault())),
-        said(Err(Refusal::UnfitMemory.fault())),
-        said(Err(Refusal::BrokenChain.fault())),
+        said(Err(Fault::from(Refusal::WrongBuffer))),
+        said(Err(Fault::from(Refusal::NoSegment(9)))),
+        said(Err(Fault::from(Refusal::UnfitMemory))),
+        said(Err(Fault::from(Refusal::BrokenChain))),
     ];
-    assert_eq!(rt; all, [(11, 0, 0), (12, 0, 9), (14, 0, 0), (15, 0, 0)]);
+    assert_eq!(rt;
+        all,
+        [
+            Some((11, 0, 0)),
+            Some((12, 0, 9)),
+            Some((14, 0, 0)),
+            Some((15, 0, 0))
+        ]
+    );
     Ok(())
 }
 
@@ -43,7 +51,11 @@ fn plain_memory_is_whole_segments(rt: HostRuntime) -> Result<(), Fail> {
         number(PlainArea::look(&memory[0..33_553_920])),
         number(PlainArea::look(&memory)),
     ];
-    assert_eq!(rt; looks, [14, 14, 0, 14, 0, 14], "from 1 to 65,535 segments");
+    assert_eq!(rt;
+        looks,
+        [Some(14), Some(14), None, Some(14), None, Some(14)],
+        "from 1 to 65,535 segments"
+    );
     Ok(())
 }
 
@@ -60,7 +72,12 @@ fn plain_calls_refuse_in_order(rt: HostRuntime) {
     ];
     assert_eq!(rt;
         refused,
-        [(11, 0, 0), (11, 0, 0), (12, 0, 2), (12, 0, usize::MAX)]
+        [
+            Some((11, 0, 0)),
+            Some((11, 0, 0)),
+            Some((12, 0, 2)),
+            Some((12, 0, usize::MAX))
+        ]
     );
     assert_eq!(rt;
         (area.count(), buffer[0]),
@@ -71,7 +88,7 @@ fn plain_calls_refuse_in_order(rt: HostRuntime) {
         said(area.write(1, &buffer[0..512])),
         said(area.read(0, &mut buffer[0..512])),
     ];
-    assert_eq!(rt; done, [(0, 0, 0), (0, 0, 0)]);
+    assert_eq!(rt; done, [None, None]);
     assert_eq!(rt; [buffer[511], memory[511], memory[512]], [7, 7, 0]);
 }
 
@@ -85,7 +102,10 @@ fn made_after_a_no_it_is_one_bad_segment(rt: HostRuntime) {
         said(area.read(0, &mut buffer)),
         said(area.write(0, &buffer)),
     ];
-    assert_eq!(rt; refused, [(12, 0, 1), (13, 0, 0), (13, 0, 0)]);
+    assert_eq!(rt;
+        refused,
+        [Some((12, 0, 1)), Some((13, 0, 0)), Some((13, 0, 0))]
+    );
     assert_eq!(rt; (area.count(), memory[0]), (1, 7));
 }
 
@@ -106,7 +126,13 @@ fn chained_calls_refuse_in_order(rt: HostRuntime) -> Result<(), Fail> {
     ];
     assert_eq!(rt;
         calls,
-        [(11, 0, 0), (12, 0, 2), (13, 0, 1), (13, 0, 1), (0, 0, 0)]
+        [
+            Some((11, 0, 0)),
+            Some((12, 0, 2)),
+            Some((13, 0, 1)),
+            Some((13, 0, 1)),
+            None
+        ]
     );
     assert_eq!(rt; area.count(), 2);
     assert_eq!(rt;

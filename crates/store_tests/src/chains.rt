@@ -17,7 +17,7 @@ fn a_pool_is_whole_pages(rt: HostRuntime) {
     ];
     assert_eq!(rt;
         looks,
-        [14, 14, 0, 0, 14],
+        [Some(14), Some(14), None, None, Some(14)],
         "14 before 15, and a byte too many"
     );
 }
@@ -31,10 +31,10 @@ fn all_pages(rt: HostRuntime) -> Result<(), Fail> {
     link(&mut pool, 4, 2, 0);
     let chain = Chain::of(rt.alloc(), &pool, 3)?;
     let mut area = ChainedArea::new(&mut pool, &chain);
-    assert_eq!(rt; (area.count(), number(area.write(3, &[8; 512]))), (5, 0));
+    assert_eq!(rt; (area.count(), number(area.write(3, &[8; 512]))), (5, None));
     assert_eq!(rt;
         (number(ChainedArea::look(&pool, 3)), pool[1552]),
-        (0, 8),
+        (None, 8),
         "segment 3 is page 4"
     );
     Ok(())
@@ -51,12 +51,12 @@ fn a_chain_that_bites_its_tail(rt: HostRuntime) -> Result<(), Fail> {
         number(ChainedArea::look(&pool, 1)),
         number(ChainedArea::look(&pool, 4)),
     ];
-    assert_eq!(rt; looks, [15, 15]);
+    assert_eq!(rt; looks, [Some(15), Some(15)]);
     let chain = Chain::of(rt.alloc(), &pool, 1)?;
     let area = ChainedArea::new(&mut pool, &chain);
     assert_eq!(rt;
         (area.count(), number(area.read(0, &mut [0; 512]))),
-        (1, 13)
+        (1, Some(13))
     );
     Ok(())
 }
@@ -73,7 +73,7 @@ fn pages_outside(rt: HostRuntime) {
         number(ChainedArea::look(&pool, 2)),
         number(ChainedArea::look(&pool, 5)),
     ];
-    assert_eq!(rt; looks, [15, 15, 15, 15, 0]);
+    assert_eq!(rt; looks, [Some(15), Some(15), Some(15), Some(15), None]);
 }
 
 #[test]
@@ -90,7 +90,7 @@ fn marks_and_zero_bytes(rt: HostRuntime) {
     ];
     assert_eq!(rt;
         looks,
-        [0, 15, 15],
+        [None, Some(15), Some(15)],
         "a bad page may stand on a chain; other pages are not looked at"
     );
 }
@@ -105,7 +105,7 @@ fn an_index_is_for_its_own_pool(rt: HostRuntime) -> Result<(), Fail> {
     let area = ChainedArea::new(&mut pool, &chain);
     assert_eq!(rt;
         (area.count(), number(area.read(0, &mut [0; 512]))),
-        (1, 13),
+        (1, Some(13)),
         "the chain is longer now"
     );
     Ok(())

@@ -10,25 +10,18 @@ pub(crate) fn link(pool: &mut [u8; SIZE], page: u16, next: u16, mark: u8) {
     if page == 0 || page > 5 {
         return;
     }
-    let base = (page as usize - 1) * PAGE;
-    let [high, low] = next.to_be_bytes();
-    pool[base] = high;
-    pool[base + 1] = low;
+    let base = (usize::from(page) - 1) * PAGE;
+    pool[base..base + 2].copy_from_slice(&next.to_be_bytes());
     pool[base + 2] = mark;
 }
 
-/// The number of a refusal, 0 for none.
-pub(crate) fn number(outcome: Result<(), Fault>) -> u8 {
-    match outcome {
-        Ok(()) => 0,
-        Err(fault) => fault.number,
-    }
+/// The number of a refusal, if it is one.
+pub(crate) fn number(outcome: Result<(), Fault>) -> Option<u8> {
+    outcome.err().map(|fault| fault.number)
 }
 
-/// The number, file and segment of a refusal, zeros for none.
-pub(crate) fn said(outcome: Result<(), Fault>) -> (u8, u8, usize) {
-    match outcome {
-        Ok(()) => (0, 0, 0),
-        Err(fault) => (fault.number, fault.file, fault.segment),
-    }
+/// The number, file and segment of a refusal, if it is one.
+pub(crate) fn said(outcome: Result<(), Fault>) -> Option<(u8, u8, usize)> {
+    let fault = outcome.err()?;
+    Some((fault.number, fault.file, fault.segment))
 }

@@ -1,25 +1,12 @@
-use Rattle.std.proofs.Common.{◌+◌, ◌-◌, ◌/◌, length, is_some, sym, ap, ◌∙◌}
-use Rattle.areas.specs.ChainedRows.{walk, next_of}
-use Rattle.areas.proofs.Walks.{step_on, step_off, walk_bad, walk_last, walk_more, some_mapped}
+use Rattle.std.proofs.Common.{◌/◌, length, is_some, sym, ◌∙◌, rules}
+use Rattle.std.proofs.lemmas.Iterator.Consumers.{YieldsList-from_first}
+use Rattle.std.proofs.lemmas.Iterator.Search.{all_from_yields_List}
+use Rattle.areas.specs.Pages.{ahead}
+use Rattle.areas.proofs.Walks.{found-met}
 use Rattle.areas.proofs.index.ends.Goals as goal
 
-pub returns-in_default : goal.returns-in_default
-returns-in_default c =
+pub returns-then-first-ne0 : goal.returns-then-first-ne0
+returns-then-first-ne0 c =
     let m = c.args.memory.now in
-    sym (ap is_some (walk_bad m (length m / 516 - c.loop-i._i) c.loop-i.page (step_off m c.loop-i.page c.in_default.ensures))) ∙ c.loop-i.invariant
-
-pub returns-then-next-eq0 : goal.returns-then-next-eq0
-returns-then-next-eq0 c =
-    let m = c.args.memory.now in
-    let s = step_on m c.loop-i.page c.in-Some.next c.in-Some.ensures in
-    sym (ap is_some (walk_last m (length m / 516) c.loop-i._i c.loop-i.page c.loop-i-test.true s.0 (sym s.1 ∙ c.if-next-eq0.true))) ∙ c.loop-i.invariant
-
-pub loop-i-preserved : goal.loop-i-preserved
-loop-i-preserved c =
-    let m = c.args.memory.now in
-    let n = length m / 516 in
-    let s = step_on m c.loop-i.page c.in-Some.next c.in-Some.ensures in
-    ap (λ q. is_some (walk m (n - (c.loop-i._i + 1)) q)) s.1
-    ∙ sym (some_mapped _ (walk m (n - (c.loop-i._i + 1)) (next_of m c.loop-i.page)))
-    ∙ sym (ap is_some (walk_more m n c.loop-i._i c.loop-i.page c.loop-i-test.true s.0 (λ z. c.if-next-eq0.false (s.1 ∙ z))))
-    ∙ c.loop-i.invariant
+    all_from_yields_List is_some c.all.new.self _ c.all.result c.all.ensures.ran (YieldsList-from_first (λ x. x) ahead {s = c.new.result} _ c.new.ensures) (λ x r q k. search rules)
+    ∙ sym (found-met m (length m / 516) c.args.first c.if-first-ne0.true)

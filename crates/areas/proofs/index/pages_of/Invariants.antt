@@ -1,7 +1,7 @@
-use Rattle.std.proofs.Common.{◌≡◌, ◌-◌, ◌/◌, ◌++◌, length, vec_items}
-use Rattle.std.specs.Option.{option_map}
-use Rattle.areas.specs.ChainedRows.{walk}
+use Rattle.std.proofs.Common.{◌≡◌, ◌/◌, ◌++◌, length, map, Some, vec_items}
+use Rattle.areas.specs.ChainedRows.{pages_met}
+use Rattle.areas.specs.Pages.{ahead}
 use Rattle.areas.proofs.index.pages_of.Given as goal
 
-abbrev pub invariant-loop-i : goal.invariant-loop-i
-invariant-loop-i l = option_map (λ ps. vec_items l.pages ++ ps) (walk l.memory (length l.memory / 516 - l._i) l.page) ≡ walk l.memory (length l.memory / 516) l.initial.page
+abbrev pub invariant-loop-page : goal.invariant-loop-page
+invariant-loop-page l = pages_met l.memory (length l.memory / 516) l.fn.first ≡ map Some (vec_items l.pages) ++ ahead l.page-iterator

@@ -1,54 +1,51 @@
-use Rattle.std.proofs.Common.{◌≡◌, ◌+◌, ◌*◌, ◌/◌, ◌^◌, ◌<◌, ◌≤◌, List, length, Ok, sym, refl, ap, ◌∙◌, subst, arith}
-use Rattle.std.proofs.lemmas.List.{length-take, length-drop}
-use Rattle.store.specs.Faults.{named}
-use Rattle.store.specs.Rows.{Segment}
-use Rattle.store.specs.Spans.{probe, put, span_answer, Wrote}
-use Rattle.store.proofs.SpanLaws.{number_fits, probe_done, never_refused_behind, span_done, only_done, put_more, put_wrote}
+use Rattle.std.proofs.Common.{◌≡◌, ◌+◌, ◌*◌, ◌/◌, ◌^◌, ◌<◌, ◌≤◌, length, sym, ap, ◌∙◌, subst, arith, length-drop}
+use Rattle.store.specs.Spans.{put}
+use Rattle.store.proofs.Cutting.{IsCut, CutsNext, cut_more}
+use Rattle.store.proofs.SpanLaws.{number_fits, never_refused_behind, put_more, put_wrote}
 use Rattle.store.proofs.spans.write_span.Goals as goal
-use Rattle.store.proofs.spans.write_span.Goals.{In_ok-probe_span}
+use Rattle.store.proofs.spans.write_span.Goals.{In-Some}
 
-there : (g : _) (c : In_ok-probe_span g) → probe (g.S.SegmentStore.row c.args.store.now) c.args.first (length c.args.buffer.now / 512) ≡ Ok tt
-there g c = probe_done (g.S.SegmentStore.row c.args.store.now) c.args.file c.args.first (length c.args.buffer.now / 512) _ c.in_ok-probe_span.ensures
+cuts : (g : _) (c : In-Some g) → CutsNext c.args.buffer.now c.next.new.self.iter.rest.now c.in-Some.part.now c.next.new.self.iter.size c.loop-i.i-iterator.count c.in-Some.i
+cuts g c = cut_more _ _ _ _ _ _ _ _ c.loop-i.invariant.cut c.in-Some.ensures.steps.1 c.in-Some.ensures.steps.0.0 c.in-Some.ensures.steps.0.1.0 c.in-Some.ensures.steps.0.1.1
+
+inside : (g : _) (c : In-Some g) → c.in-Some.i < c.in_ok-probed.field-0
+inside g c = omega (arith, (cuts g c).there, c.in_ok-probed.ensures.whole)
 
 pub overflow_add-first : goal.overflow_add-first
 overflow_add-first g c =
-    let s = c.args.store.now in
     let f : c.args.first < 2 ^ 64 = omega arith in
-    omega (arith, number_fits (g.S.SegmentStore.row s) c.args.first c.loop-i.i (length c.args.buffer.now / 512) (g.S.SegmentStore.proper s) f c.loop-i.auto.i-end (there g (goal.at.overflow_add-first g c).In_ok-probe_span))
-
-pub returns-in_err-of_file : goal.returns-in_err-of_file
-returns-in_err-of_file g c =
-    let b = c.args.buffer.now in
-    let i = c.loop-i.i in
-    let long : i * 512 + 512 ≤ length b = omega arith in
-    absurd (never_refused_behind (g.S.SegmentStore.row c.args.store.now) (g.S.SegmentStore.row c.loop-i.store) c.args.file c.args.first (length b / 512) i _ b c.write.result _
-    (there g (goal.at.returns-in_err-of_file g c).In_ok-probe_span) c.loop-i-test.true c.loop-i.invariant.0 (simp (length-take, length-drop) (omega arith)) c.write.ensures.value c.in_err-of_file.ensures)
+    let i : c.in-Some.i ≤ c.in_ok-probed.field-0 = omega (arith, inside g (goal.at.overflow_add-first g c).In-Some) in
+    omega (arith, number_fits (g.S.SegmentStore.row c.args.store.now) c.args.first c.in-Some.i c.in_ok-probed.field-0 (g.met.S.SegmentStore.proper c.args.store.now) f i c.in_ok-probed.ensures.there)
 
 pub loop-i-preserved : goal.loop-i-preserved
 loop-i-preserved g c =
+    let at = (goal.at.loop-i-preserved g c).In-Some in
+    let t = cuts g at in
     let row = g.S.SegmentStore.row c.args.store.now in
-    let i = c.loop-i.i in
-    let b = c.args.buffer.now in
-    let long : i * 512 + 512 ≤ length b = omega arith in (
-      put_more row (g.S.SegmentStore.row c.loop-i.store) _ c.args.first (length b / 512) i b _ (there g (goal.at.loop-i-preserved g c).In_ok-probe_span) c.loop-i-test.true
-          c.loop-i.invariant.0 refl (simp (length-take, length-drop) (omega arith)) c.write.ensures.after,
-      c.write.ensures.kept ∙ c.loop-i.invariant.1,
-      c.write.ensures.framed ∙ c.loop-i.invariant.2,
-    )
-
-pub returns : goal.returns
-returns g c =
-    let row = g.S.SegmentStore.row c.args.store.now in
-    let first = c.args.first in
-    let b = c.args.buffer.now in
-    let n : c.loop-i.i ≡ length b / 512 = omega arith in
-    let t = there g (goal.at.returns g c).In_ok-probe_span in
-    let d = span_done row first (length b) c.if-buffer-ne0.false t in
-    let e : g.S.SegmentStore.row c.loop-i.store ≡ put row first (length b / 512) b = c.loop-i.invariant.0 ∙ ap (λ k. put row first k b) n in
+    let i = c.in-Some.i in
+    let z : i ≡ c.loop-i.i-iterator.count = c.in-Some.ensures.steps.1 in
     record {
-      value = sym (ap (named c.args.file) d);
-      after = e ∙ sym (only_done (span_answer row first (length b)) _ row d);
-      wrote = λ _. subst (λ (r : List Segment). Wrote row r first (length b / 512) b) (sym e) (put_wrote row first (length b / 512) b (omega (arith, c.if-buffer-ne0.false)) t);
-      kept = c.loop-i.invariant.1;
-      framed = c.loop-i.invariant.2;
+      cut = subst (λ k. IsCut c.args.buffer.now c.next.new.self.iter.rest.now c.next.new.self.iter.size k) (sym c.in-Some.ensures.steps.2) t.onward;
+      written = put_more row (g.S.SegmentStore.row c.loop-i.store) _ c.args.first c.in_ok-probed.field-0 i c.args.buffer.now c.in-Some.part.now c.in_ok-probed.ensures.there (inside g at)
+          (c.loop-i.invariant.written ∙ ap (λ k. put row c.args.first k c.args.buffer.now) (sym z)) t.is t.long c.write.ensures.after
+          ∙ ap (λ k. put row c.args.first k c.args.buffer.now) (ap (λ k. k + 1) z ∙ sym c.in-Some.ensures.steps.2);
+      kept = c.write.ensures.kept ∙ c.loop-i.invariant.kept;
     }
+
+pub returns-in_err-of_file : goal.returns-in_err-of_file
+returns-in_err-of_file g c =
+    let at = (goal.at.returns-in_err-of_file g c).In-Some in
+    let t = cuts g at in
+    let z : c.in-Some.i ≡ c.loop-i.i-iterator.count = c.in-Some.ensures.steps.1 in
+    absurd (never_refused_behind (g.S.SegmentStore.row c.args.store.now) (g.S.SegmentStore.row c.loop-i.store) c.args.file c.args.first c.in_ok-probed.field-0 c.in-Some.i _ c.args.buffer.now c.write.result _
+    c.in_ok-probed.ensures.there (inside g at) (c.loop-i.invariant.written ∙ ap (λ k. put (g.S.SegmentStore.row c.args.store.now) c.args.first k c.args.buffer.now) (sym z)) t.long c.write.ensures.value c.in_err-of_file.ensures)
+
+pub returns-clause-wrote : goal.returns-clause-wrote
+returns-clause-wrote g c =
+    let b = c.args.buffer.now in
+    let n = c.in_ok-probed.field-0 in
+    let cut = c.loop-i.invariant.cut in
+    let all : c.loop-i.i-iterator.count ≡ n =
+    omega (arith, cut.by, cut.inside, ap length cut.left, length-drop (c.loop-i.i-iterator.count * 512) b, c.in_ok-probed.ensures.whole, c.in-None.ensures.steps.0.1.0) in
+    let whole : length b / 512 ≡ n = omega (arith, c.in_ok-probed.ensures.whole) in
+    λ done. rw (c.loop-i.invariant.written, all, whole) (put_wrote (g.S.SegmentStore.row c.args.store.now) c.args.first n b c.in_ok-probed.ensures.whole c.in_ok-probed.ensures.there)

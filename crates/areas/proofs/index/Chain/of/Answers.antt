@@ -6,4 +6,4 @@ use Rattle.areas.proofs.index.Chain.of.Goals as goal
 pub invariant_of-result : goal.invariant_of-result
 invariant_of-result c =
     let m = c.args.memory.now in
-    record { sound = ap (indexed (length m)) c.in_ok-pages.ensures ∙ pages_indexed m c.args.first }
+    record { sound = ap (indexed (length m)) c.in_ok-pages_of.ensures ∙ pages_indexed m c.args.first }
