@@ -16,12 +16,9 @@ fn show_order(rt: &HostRuntime, block: &[u8]) -> anyhow::Result<()> {
 }
 
 fn show_place(rt: &HostRuntime, block: &[u8], name: GyleName) -> anyhow::Result<()> {
-    let place = find::<Gyles>(block, &name.key());
-    let at = place.at;
-    if place.same {
-        println!(rt; "seek {name}: there, at place {at}")?;
-    } else {
-        println!(rt; "seek {name}: not there, its place is {at}")?;
+    match find::<Gyles>(block, &name.key()) {
+        Ok(at) => println!(rt; "seek {name}: there, at place {at}")?,
+        Err(at) => println!(rt; "seek {name}: not there, its place is {at}")?,
     }
     Ok(())
 }

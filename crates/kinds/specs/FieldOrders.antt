@@ -1,21 +1,24 @@
 -- Each order by fields that take up the whole key keeps the three laws. Assumes nothing.
-use Rattle.std.specs.Prelude.{◌≡◌, ℕ, ◌+◌, ◌-◌, ◌<◌, ◌≤◌, Bool, true, false, cond, List, [], ◌∷◌, length, drop, slice_index, refl}
-use Rattle.std.specs.declared.cmp.Ordering.TheVariants.{Equal}
+use Rattle.std.specs.Prelude.{◌≡◌, ℕ, ◌+◌, ◌-◌, ◌<◌, ◌≤◌, Bool, true, false, if◌then◌else◌, List, [], ◌∷◌, length, drop, slice_index, refl}
+use Rattle.std.specs.declared.cmp.Ordering.TheVariants.{Less, Equal}
+use Rattle.std.specs.declared.cmp.Ordering.{Ordering}
+use Rattle.std.specs.Ordering.{ordering_reverse}
 use Rattle.std.proofs.Common.{⊎_elim, sym, ap, subst, ◌∙◌, arith}
-use Rattle.std.proofs.ByRecursion.{All-drop}
+use Rattle.std.specs.Cmp.{IsTotalOrder, nat_cmp_total, int_cmp_total, on_total, then_total, back_total, tied_itself}
 use Rattle.std.proofs.lemmas.List.{same_lists, get_or_default, get_or-drop}
+use Rattle.std.proofs.lemmas.List.Elements.{All-drop}
 use Rattle.std.proofs.lemmas.Bool.{cases_lt}
 use Rattle.kinds.specs.declared.fields.Field.{Field}
 use Rattle.kinds.specs.Fields.{signed_of, by_bytes, by_signed, directed, by_field, by_fields, width_of}
+use Rattle.kinds.specs.Kinds.{of_fields}
 use Rattle.kinds.specs.Laws.{Order, Laws}
 use Rattle.kinds.specs.Weights.{weighed}
-use Rattle.kinds.specs.Lexical.{lex, bytes_lex, bytes_steady, lex_pins}
+use Rattle.kinds.specs.Lexical.{lex, bytes_lex, bytes_total, lex_pins, both_level}
 use Rattle.kinds.specs.Signs.{Bytes, signed_lex, weighed_pins}
-use Rattle.kinds.specs.Steady.{Steady, by_value, all_level, through, either_way, in_turn, own_flip, both_level, level_either_way}
 
 -- ---- one field
 
-by_sign : (s : Bool) (a b : List ℕ) → Bytes a → Bytes b → (n : ℕ) → cond s (by_signed n a b) (by_bytes n a b) ≡ lex (weighed s a) (weighed s b) n
+by_sign : (s : Bool) (a b : List ℕ) → Bytes a → Bytes b → (n : ℕ) → (if s then by_signed n a b else by_bytes n a b) ≡ lex (weighed s a) (weighed s b) n
 by_sign true a b ha hb n = signed_lex a b ha hb n
 by_sign false a b ha hb n = bytes_lex a b n
 
@@ -23,20 +26,33 @@ by_sign false a b ha hb n = bytes_lex a b n
 pub field_lex : (f : Field) (a b : List ℕ) → Bytes a → Bytes b → by_field f a b ≡ directed f.descending (lex (weighed f.signed a) (weighed f.signed b) f.width)
 field_lex f a b ha hb = ap (directed f.descending) (by_sign f.signed a b ha hb f.width)
 
-pub level_directed : (down : Bool) → Equal ≡ directed down Equal
-level_directed true = refl
-level_directed false = refl
+by_sign_total : (s : Bool) (n : ℕ) → IsTotalOrder (λ a b. if s then by_signed n a b else by_bytes n a b)
+by_sign_total true n = on_total (signed_of n) int_cmp_total
+by_sign_total false n = bytes_total n
 
-sign_steady : (s : Bool) (n : ℕ) → Steady (λ a b. cond s (by_signed n a b) (by_bytes n a b))
-sign_steady true n = by_value (signed_of n)
-sign_steady false n = bytes_steady n
+pub back : {K : Type 0} (c : K → K → Ordering) → IsTotalOrder c → (x y : K) → ordering_reverse (c x y) ≡ Less → c y x ≡ Less
+back c total x y above = total.antisymm y x ∙ above
 
-field_steady : (f : Field) → Steady (by_field f)
-field_steady f = either_way (λ a b. cond f.signed (by_signed f.width a b) (by_bytes f.width a b)) (sign_steady f.signed f.width) f.descending
+pub alike_right : {K : Type 0} (c : K → K → Ordering) → IsTotalOrder c → (x y z : K) → c x y ≡ Equal → c z x ≡ c z y
+alike_right c total x y z level = total.antisymm z x ∙ ap ordering_reverse (total.congr x y z level) ∙ sym (total.antisymm z y)
+
+pub either_way : (order : Order) (down : Bool) → IsTotalOrder order → IsTotalOrder (λ a b. directed down (order a b))
+either_way order true s = subst IsTotalOrder (λ i a b. s.antisymm b a i) (back_total s)
+either_way order false s = s
+
+field_total : (f : Field) → IsTotalOrder (by_field f)
+field_total f = either_way (λ a b. if f.signed then by_signed f.width a b else by_bytes f.width a b) f.descending (by_sign_total f.signed f.width)
 
 -- keys that the order calls the same agree in their first n bytes
 abbrev Pins : ℕ → Order → Type 0
 Pins n order = (a b : List ℕ) → Bytes a → Bytes b → order a b ≡ Equal → (i : ℕ) → i < n → slice_index a i ≡ slice_index b i
+
+pub level_directed : (down : Bool) → Equal ≡ directed down Equal
+level_directed true = refl
+level_directed false = refl
+
+pub level_either_way : (down : Bool) (o : Ordering) → directed down o ≡ Equal → o ≡ Equal
+level_either_way down o level = grind arith
 
 field_pins : (f : Field) → Pins f.width (by_field f)
 field_pins f a b ha hb e i l =
@@ -47,9 +63,9 @@ field_pins f a b ha hb e i l =
 
 -- ---- one behind another
 
-fields_steady : (fs : List Field) → Steady (by_fields fs)
-fields_steady [] = all_level
-fields_steady (f ∷ fs) = in_turn (by_field f) (field_steady f) (λ a b. by_fields fs (drop f.width a) (drop f.width b)) (through (drop f.width) (by_fields fs) (fields_steady fs))
+fields_total : (fs : List Field) → IsTotalOrder (by_fields fs)
+fields_total [] = on_total (λ _. 0) nat_cmp_total
+fields_total (f ∷ fs) = then_total (field_total f) (on_total (drop f.width) (fields_total fs))
 
 fields_pin : (fs : List Field) → Pins (width_of fs) (by_fields fs)
 fields_pin [] a b ha hb e i l = absurd (omega arith)
@@ -65,17 +81,17 @@ fields_pin (f ∷ fs) a b ha hb e i l =
     (cases_lt i w)
 
 -- each order by fields is lawful
-pub fields_lawful : (fs : List Field) → Laws (width_of fs) (by_fields fs)
+pub fields_lawful : {number long : ℕ} (fs : List Field) → Laws (of_fields number long fs)
 fields_lawful fs =
-    let s = fields_steady fs in
+    let s = fields_total fs in
     record {
       same = λ a b ha hb. (
         λ e. same_lists a b (ha.0 ∙ sym hb.0) (λ k d h.
             let l : k < width_of fs = omega (arith, ha.0) in
             let m : k < length b = omega (arith, ha.0, hb.0) in
             get_or_default a k d 0 h ∙ fields_pin fs a b ha.1 hb.1 e k l ∙ get_or_default b k 0 d m),
-        λ e. subst (λ c. by_fields fs a c ≡ Equal) e (own_flip (by_fields fs a a) (s.flip a a)),
+        λ e. subst (λ c. by_fields fs a c ≡ Equal) e (tied_itself s a),
       );
-      flip = λ a b ha hb. s.flip b a;
+      flip = λ a b ha hb. s.antisymm b a;
       trans = λ a b c ha hb hc. s.trans a b c;
     }

@@ -1,6 +1,6 @@
 -- Keys made of fields, and the order that the fields give. A key that is too short counts as filled up with zeros,
 -- and what lies behind the last field is not looked at. Assumes nothing.
-use Rattle.std.specs.Prelude.{ℕ, zero, suc, ◌+◌, ◌-◌, ◌*◌, ◌/◌, ◌^◌, Bool, true, false, cond, List, [], ◌∷◌, drop, ℤ, pos, negsuc, nat_lt, slice_index}
+use Rattle.std.specs.Prelude.{ℕ, zero, suc, ◌+◌, ◌-◌, ◌*◌, ◌/◌, ◌^◌, Bool, true, false, if◌then◌else◌, List, [], ◌∷◌, drop, ℤ, pos, negsuc, nat_lt, slice_index}
 use Rattle.std.specs.declared.cmp.Ordering.TheVariants.{Equal}
 use Rattle.std.specs.declared.cmp.Ordering.{Ordering}
 use Rattle.std.specs.Ordering.{ordering_reverse, ordering_then, nat_cmp, int_cmp}
@@ -14,7 +14,7 @@ unsigned_of (suc n) k = unsigned_of n k * 256 + slice_index k n
 
 -- v, a number of n bytes, read as two's complement
 abbrev pub twos : ℕ → ℕ → ℤ
-twos n v = cond (nat_lt v (256 ^ n / 2)) (pos v) (negsuc (256 ^ n - suc v))
+twos n v = if nat_lt v (256 ^ n / 2) then pos v else negsuc (256 ^ n - suc v)
 
 -- the first n bytes as a signed number
 abbrev pub signed_of : ℕ → List ℕ → ℤ
@@ -36,7 +36,7 @@ directed false o = o
 
 -- by the field that a key begins with
 abbrev pub by_field : Field → Order
-by_field f a b = directed f.descending (cond f.signed (by_signed f.width a b) (by_bytes f.width a b))
+by_field f a b = directed f.descending (if f.signed then by_signed f.width a b else by_bytes f.width a b)
 
 -- by each field in turn, one behind another
 abbrev pub by_fields : List Field → Order

@@ -5,5 +5,4 @@ pub mod Search
 pub mod Weights
 pub mod FieldOrders
 pub mod Lexical
-pub mod Steady
 pub mod Signs

@@ -1,38 +1,46 @@
 -- Keys in a row, as they lie in a block or a table, and the place of a key among them. Assumes nothing.
-use Rattle.std.specs.Prelude.{◌≡◌, ℕ, suc, ◌+◌, ◌-◌, ◌*◌, ◌/◌, ◌<◌, ◌≤◌, Bool, true, false, not, List, [], length, take, drop, Decides, ◌≢◌, slice_index_or}
+use Rattle.std.specs.Prelude.{◌≡◌, ℕ, suc, ◌+◌, ◌-◌, ◌*◌, ◌/◌, ◌<◌, ◌≤◌, ◌↔◌, Bool, true, false, List, [], length, take, drop, ◌≢◌, Result, Ok, Err, IsOk, OnErr, slice_index_or}
 use Rattle.std.specs.declared.cmp.Ordering.TheVariants.{Less, Equal, Greater}
-use Rattle.std.specs.Ordering.{is_lt, is_gt}
+use Rattle.std.specs.Ordering.{is_lt, is_le}
 use Rattle.kinds.specs.declared.search.Entry.{Entry}
-use Rattle.kinds.specs.declared.search.Place.{Place}
-use Rattle.kinds.specs.Laws.{Order, Key}
+use Rattle.kinds.specs.Laws.{Kind, Key}
 
--- the key of record i, where records take `size` bytes each and begin with their key of p bytes
-abbrev pub key_at : ℕ → ℕ → List ℕ → ℕ → List ℕ
-key_at p size bytes i = take p (drop (i * size) bytes)
+-- the key of record i, where records take `size` bytes each
+abbrev pub key_at : Kind → ℕ → List ℕ → ℕ → List ℕ
+key_at kind size bytes i = take kind.key_length (drop (i * size) bytes)
 
--- the same in a block, where each record of l bytes has two bytes more behind it
-abbrev pub key_in : ℕ → ℕ → List ℕ → ℕ → List ℕ
-key_in l p block = key_at p (l + 2) block
+-- the same in a block, where each record has two bytes more behind it
+abbrev pub key_in : Kind → List ℕ → ℕ → List ℕ
+key_in kind block = key_at kind (kind.record_length + 2) block
 
 -- how many whole records a block has
-abbrev pub held_in : ℕ → List ℕ → ℕ
-held_in l block = length block / (l + 2)
+abbrev pub held_in : Kind → List ℕ → ℕ
+held_in kind block = length block / (kind.record_length + 2)
 
 -- what stands past the end of a table
 abbrev pub no_entry : Entry
 no_entry = record { count = 0; first = 0; bound = [] }
 
--- the key bound of entry i: the first p of the bytes that are kept for it
-abbrev pub bound_at : ℕ → List Entry → ℕ → List ℕ
-bound_at p entries i = take p (slice_index_or entries i no_entry).bound
+-- the key bound of entry i: of the bytes that are kept for it, as many as a key has
+abbrev pub bound_at : Kind → List Entry → ℕ → List ℕ
+bound_at kind entries i = take kind.key_length (slice_index_or entries i no_entry).bound
 
--- the first n are keys of p bytes
-abbrev pub Keyed : ℕ → (ℕ → List ℕ) → ℕ → Type 0
-Keyed p key n = (i : ℕ) → i < n → Key p (key i)
+-- the first n are keys
+abbrev pub Keyed : Kind → (ℕ → List ℕ) → ℕ → Type 0
+Keyed kind key n = (i : ℕ) → i < n → Key kind (key i)
 
 -- each of the first n is below those behind it
-abbrev pub Ascends : Order → (ℕ → List ℕ) → ℕ → Type 0
-Ascends order key n = (i j : ℕ) → i < j → j < n → order (key i) (key j) ≡ Less
+abbrev pub Ascends : Kind → (ℕ → List ℕ) → ℕ → Type 0
+Ascends kind key n = (i j : ℕ) → i < j → j < n → kind.order (key i) (key j) ≡ Less
+
+-- the keys of a block ascend
+abbrev pub KeysAscend : Kind → List ℕ → Type 0
+KeysAscend kind block = Ascends kind (key_in kind block) (held_in kind block)
+
+-- the bounds of a table are keys, and ascend
+pub record BoundsAscend (kind : Kind) (entries : List Entry) : Type 0 where
+  pub keyed : Keyed kind (bound_at kind entries) (length entries)
+  pub ascend : Ascends kind (bound_at kind entries) (length entries)
 
 -- of n places, the test is true at the one before t, and false at t
 pub record Turn (test : ℕ → Bool) (n t : ℕ) : Type 0 where
@@ -40,31 +48,36 @@ pub record Turn (test : ℕ → Bool) (n t : ℕ) : Type 0 where
   pub before : (i : ℕ) → suc i ≡ t → test i ≡ true
   pub behind : t < n → test t ≡ false
 
-abbrev pub below : Order → (ℕ → List ℕ) → List ℕ → ℕ → Bool
-below order key k i = is_lt (order (key i) k)
+abbrev pub below : Kind → List ℕ → List ℕ → ℕ → Bool
+below kind block k i = is_lt (kind.order (key_in kind block i) k)
 
-abbrev pub not_above : Order → (ℕ → List ℕ) → List ℕ → ℕ → Bool
-not_above order key k i = not (is_gt (order (key i) k))
+abbrev pub not_above : Kind → List Entry → List ℕ → ℕ → Bool
+not_above kind entries k i = is_le (kind.order (bound_at kind entries i) k)
 
--- r is the place of the first of n keys that is not below k, or n
-pub record FirstNotBelow (order : Order) (key : ℕ → List ℕ) (n : ℕ) (k : List ℕ) (r : ℕ) : Type 0 where
-  pub within : r ≤ n
-  pub before : (i : ℕ) → i < r → order (key i) k ≡ Less
-  pub behind : (i : ℕ) → r ≤ i → i < n → order (key i) k ≢ Less
+-- r is the place of the first record whose key is not below k, or how many records there are
+pub record FirstNotBelow (kind : Kind) (block k : List ℕ) (r : ℕ) : Type 0 where
+  pub within : r ≤ held_in kind block
+  pub before : (i : ℕ) → i < r → kind.order (key_in kind block i) k ≡ Less
+  pub behind : (i : ℕ) → r ≤ i → i < held_in kind block → kind.order (key_in kind block i) k ≢ Less
 
--- r is the place of the last of n keys that is not above k, or else the first place
-pub record LastNotAbove (order : Order) (key : ℕ → List ℕ) (n : ℕ) (k : List ℕ) (r : ℕ) : Type 0 where
-  pub within : r ≤ n - 1
-  pub upto : (i : ℕ) → 0 < r → i ≤ r → order (key i) k ≢ Greater
-  pub behind : (i : ℕ) → r < i → i < n → order (key i) k ≡ Greater
+-- r is the place of the last entry whose bound is not above k, or else the first place
+pub record LastNotAbove (kind : Kind) (entries : List Entry) (k : List ℕ) (r : ℕ) : Type 0 where
+  pub within : r ≤ length entries - 1
+  pub upto : (i : ℕ) → 0 < r → i ≤ r → kind.order (bound_at kind entries i) k ≢ Greater
+  pub behind : (i : ℕ) → r < i → i < length entries → kind.order (bound_at kind entries i) k ≡ Greater
 
--- what a search for k answers, whatever the n keys are
-pub record Looked (order : Order) (key : ℕ → List ℕ) (n : ℕ) (k : List ℕ) (r : Place) : Type 0 where
-  pub turn : Turn (below order key k) n r.at
-  pub same : Decides r.same ((r.at < n) × (order (key r.at) k ≡ Equal))
+-- the place that an answer names
+abbrev pub place_of : Result ℕ ℕ → ℕ
+place_of (Ok at) = at
+place_of (Err at) = at
 
--- what it answers where the n keys ascend, and k is a key
-pub record Found (order : Order) (key : ℕ → List ℕ) (n : ℕ) (k : List ℕ) (r : Place) : Type 0 where
-  pub first : FirstNotBelow order key n k r.at
-  pub here : Decides r.same ((r.at < n) × (key r.at ≡ k))
-  pub nowhere : r.same ≡ false → (i : ℕ) → i < n → key i ≢ k
+-- what a search of a block for k answers, whatever the keys are
+pub record Looked (kind : Kind) (block k : List ℕ) (r : Result ℕ ℕ) : Type 0 where
+  pub turn : Turn (below kind block k) (held_in kind block) (place_of r)
+  pub same : IsOk r ↔ ((place_of r < held_in kind block) × (kind.order (key_in kind block (place_of r)) k ≡ Equal))
+
+-- what it answers where the keys ascend, and k is a key
+pub record Found (kind : Kind) (block k : List ℕ) (r : Result ℕ ℕ) : Type 0 where
+  pub first : FirstNotBelow kind block k (place_of r)
+  pub here : IsOk r ↔ ((place_of r < held_in kind block) × (key_in kind block (place_of r) ≡ k))
+  pub nowhere : OnErr r ((i : ℕ) → i < held_in kind block → key_in kind block i ≢ k)

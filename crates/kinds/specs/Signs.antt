@@ -1,27 +1,30 @@
 -- The order of signed numbers is that of their bytes, the first with its sign bit flipped. Assumes nothing.
-use Rattle.std.specs.Prelude.{◌≡◌, ℕ, zero, suc, ◌+◌, ◌-◌, ◌*◌, ◌/◌, ◌%◌, ◌^◌, ◌<◌, Bool, true, cond, List, [], ◌∷◌, ℤ, pos, negsuc, nat_lt, slice_index, slice_index_or, refl}
-use Rattle.std.proofs.Common.{sym, ap, ap₂, ◌∙◌, pow-suc, arith}
+use Rattle.std.specs.Prelude.{◌≡◌, ℕ, zero, suc, ◌+◌, ◌-◌, ◌*◌, ◌/◌, ◌%◌, ◌^◌, ◌<◌, Bool, true, if◌then◌else◌, List, length, ◌≤◌, ℤ, pos, negsuc, nat_lt, slice_index, slice_index_or, All, refl}
+use Rattle.std.proofs.Common.{⊎_elim, sym, ap, ap₂, ◌∙◌, pow-suc, arith}
+use Rattle.std.proofs.lemmas.Bool.{cases_lt}
+use Rattle.std.proofs.lemmas.List.{get_or_past}
 use Rattle.std.proofs.lemmas.Bool.Decides.{nat_tests}
-use Rattle.std.specs.List.{AllByRecursion}
 use Rattle.kinds.specs.Fields.{unsigned_of, twos, by_signed}
 use Rattle.kinds.specs.Weights.{weighed}
 use Rattle.kinds.specs.Lexical.{lex, digits, lex-digits}
 use Rattle.std.specs.Ordering.{nat_cmp, int_cmp}
 
 abbrev pub Bytes : List ℕ → Type 0
-Bytes k = AllByRecursion (λ x. x < 256) k
+Bytes k = All (λ x. x < 256) k
 
 pub byte_lt : (k : List ℕ) → Bytes k → (i : ℕ) → slice_index k i < 256
-byte_lt [] h i = omega arith
-byte_lt (x ∷ xs) h zero = h.0
-byte_lt (x ∷ xs) h (suc i) = byte_lt xs h.1 i
+byte_lt k h i =
+    ⊎_elim
+    (λ (l : i < length k). h i 0 l)
+    (λ (l : length k ≤ i). rw (get_or_past k i 0 l) (omega arith))
+    (cases_lt i (length k))
 
 -- a number below 2h with its sign bit, of weight h, flipped; and as two's complement
 abbrev flipped : ℕ → ℕ → ℕ
-flipped h v = cond (nat_lt v h) (v + h) (v - h)
+flipped h v = if nat_lt v h then v + h else v - h
 
 abbrev complement : ℕ → ℕ → ℤ
-complement h v = cond (nat_lt v h) (pos v) (negsuc (2 * h - suc v))
+complement h v = if nat_lt v h then pos v else negsuc (2 * h - suc v)
 
 rank_flipped : (h v w : ℕ) → v < 2 * h → w < 2 * h → int_cmp (complement h v) (complement h w) ≡ nat_cmp (flipped h v) (flipped h w)
 rank_flipped h v w p q = grind (arith, nat_tests)
@@ -42,7 +45,7 @@ two_halves : (n : ℕ) → 256 ^ suc n ≡ 2 * (128 * 256 ^ n)
 two_halves n = rw (pow-suc 256 n) (omega arith)
 
 twos_is : (n v : ℕ) → twos (suc n) v ≡ complement (128 * 256 ^ n) v
-twos_is n v = ap₂ (λ h m. cond (nat_lt v h) (pos v) (negsuc (m - suc v))) (half_is n) (two_halves n)
+twos_is n v = ap₂ (λ h m. if nat_lt v h then pos v else negsuc (m - suc v)) (half_is n) (two_halves n)
 
 -- ---- the weights
 

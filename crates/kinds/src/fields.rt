@@ -1,37 +1,27 @@
 //! Keys made of fields, and the order that the fields give.
-ghost use Rattle.std.specs.Prelude.{◌≡◌, drop, slice_index};
+ghost use Rattle.std.specs.Prelude.{◌≡◌, drop};
 ghost use Rattle.kinds.specs.Fields.{by_field, by_fields, directed};
 ghost use Rattle.kinds.specs.Weights.{weighed};
 
 use std::cmp::Ordering;
 
 /// A field of a key: a number, the high byte first.
-#[derive(Clone, Copy)]
+#[derive(Clone, Copy, PartialEq, Eq, Debug)]
 pub struct Field {
     /// How many bytes it takes.
     pub width: usize,
+    // Two named flags, and no enums of two: these would say no more.
     /// Whether it is two's complement.
     pub signed: bool,
     /// Whether a larger number comes first.
     pub descending: bool,
 }
 
-/// The byte at `i`, or 0 where the key is too short.
-fn byte(key: &[u8], i: usize) -> u8
-    ensures { result ≡ slice_index key.now i }
-{
-    if i < key.len() { key[i] } else { 0 }
-}
-
 /// The part of a key behind its first `width` bytes.
 fn behind(key: &[u8], width: usize) -> &[u8]
     ensures { result.now ≡ drop width key.now }
 {
-    if width < key.len() {
-        &key[width..]
-    } else {
-        &key[key.len()..]
-    }
+    key.get(width..).unwrap_or(&[])
 }
 
 impl Field {
@@ -40,7 +30,7 @@ impl Field {
     fn weight(self, key: &[u8], i: usize) -> u8
         ensures { result ≡ weighed self.signed key.now i }
     {
-        let x = byte(key, i);
+        let x = key.get(i).copied().unwrap_or(0);
         if self.signed && i == 0 {
             x.wrapping_add(0x80)
         } else {
@@ -63,13 +53,10 @@ impl Field {
     pub fn compare(self, a: &[u8], b: &[u8]) -> Ordering
         ensures { result ≡ by_field self a.now b.now }
     {
-        for i in 0..self.width {
-            let order = self.weight(a, i).cmp(&self.weight(b, i));
-            if order.is_ne() {
-                return self.direct(order);
-            }
-        }
-        Ordering::Equal
+        let order = (0..self.width)
+            .map(|i| self.weight(a, i))
+            .cmp((0..self.width).map(|i| self.weight(b, i)));
+        self.direct(order)
     }
 }
 

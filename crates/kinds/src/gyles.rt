@@ -2,7 +2,7 @@
 ghost use Rattle.std.specs.Prelude.{◌≡◌, drop};
 ghost use Rattle.std.specs.declared.cmp.Ordering.TheVariants.{Less};
 ghost use Rattle.kinds.specs.Fields.{signed_of};
-ghost use Rattle.kinds.specs.Kinds.{gyle_order, YearDecides, gyle_fields};
+ghost use Rattle.kinds.specs.Kinds.{gyle_kind, YearDecides, gyle_fields};
 ghost use Rattle.kinds.specs.FieldOrders.{fields_lawful};
 ghost use Rattle.std.proofs.Common.{rules};
 
@@ -39,14 +39,9 @@ impl Gyles {
     }
 }
 
+// Each kind says this itself: a trait between, for kinds whose key is made of fields, would ask for as many lines.
 impl RecordKind for Gyles {
-    ghost kind_number = { 1 };
-
-    ghost record_length = { 32 };
-
-    ghost key_length = { 6 };
-
-    ghost order = { gyle_order };
+    ghost kind = { gyle_kind };
 
     ghost sizes = { Prim.search rules };
 

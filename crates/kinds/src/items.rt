@@ -2,7 +2,7 @@
 ghost use Rattle.std.specs.Prelude.{◌≡◌, take, drop};
 ghost use Rattle.std.specs.declared.cmp.Ordering.TheVariants.{Greater};
 ghost use Rattle.kinds.specs.Fields.{signed_of};
-ghost use Rattle.kinds.specs.Kinds.{item_order, LatestPriceFirst, item_fields};
+ghost use Rattle.kinds.specs.Kinds.{item_kind, LatestPriceFirst, item_fields};
 ghost use Rattle.kinds.specs.FieldOrders.{fields_lawful};
 ghost use Rattle.std.proofs.Common.{rules};
 
@@ -40,13 +40,7 @@ impl Items {
 }
 
 impl RecordKind for Items {
-    ghost kind_number = { 2 };
-
-    ghost record_length = { 40 };
-
-    ghost key_length = { 10 };
-
-    ghost order = { item_order };
+    ghost kind = { item_kind };
 
     ghost sizes = { Prim.search rules };
 

@@ -1,5 +1,5 @@
 //! Casks: a kind of its own, with the longest records and keys that there may be.
-ghost use Rattle.kinds_tests.specs.Casks.{cask_order, cask_fields};
+ghost use Rattle.kinds_tests.specs.Casks.{cask_kind, cask_fields};
 ghost use Rattle.kinds.specs.FieldOrders.{fields_lawful};
 ghost use Rattle.std.proofs.Common.{rules};
 
@@ -26,13 +26,7 @@ const FIELDS: [Field; 2] = [MARK, FILLED];
 pub struct Casks;
 
 impl RecordKind for Casks {
-    ghost kind_number = { 9 };
-
-    ghost record_length = { 254 };
-
-    ghost key_length = { 16 };
-
-    ghost order = { cask_order };
+    ghost kind = { cask_kind };
 
     ghost sizes = { Prim.search rules };
 

@@ -4,6 +4,7 @@ use kinds::RecordKind;
 use kinds::gyles::{Gyles, year_decides};
 use kinds::items::{Items, latest_price_first};
 use std::cmp::Ordering;
+use std::process::Abort;
 
 #[test]
 fn numbers_and_lengths(rt: HostRuntime) {
@@ -14,6 +15,15 @@ fn numbers_and_lengths(rt: HostRuntime) {
         [gyles, items, casks],
         [(1, 32, 6), (2, 40, 10), (9, 254, 16)]
     );
+}
+
+/// Each key is below those behind it.
+fn ascend<K: RecordKind, const P: usize>(rt: &impl Abort, keys: &[[u8; P]]) {
+    for (i, a) in keys.iter().enumerate() {
+        for (j, b) in keys.iter().enumerate() {
+            assert!(rt; K::compare(a, b) == i.cmp(&j));
+        }
+    }
 }
 
 #[test]
@@ -29,12 +39,7 @@ fn gyles_ascend(rt: HostRuntime) {
         Gyles::key(i16::MAX, i32::MIN),
         Gyles::key(i16::MAX, i32::MAX),
     ];
-    for i in 0..9 {
-        for j in 0..9 {
-            let (a, b) = (keys[i], keys[j]);
-            assert!(rt; Gyles::compare(&a, &b) == i.cmp(&j));
-        }
-    }
+    ascend::<Gyles, 6>(&rt, &keys);
     assert!(rt; year_decides() == Ordering::Less);
 }
 
@@ -51,12 +56,7 @@ fn items_ascend_by_code_and_descend_by_year(rt: HostRuntime) {
         Items::key([128, 0, 0, 0, 0, 0, 0, 0], 7),
         Items::key([255; 8], 7),
     ];
-    for i in 0..9 {
-        for j in 0..9 {
-            let (a, b) = (keys[i], keys[j]);
-            assert!(rt; Items::compare(&a, &b) == i.cmp(&j));
-        }
-    }
+    ascend::<Items, 10>(&rt, &keys);
     assert!(rt; latest_price_first([255; 8]) == Ordering::Greater);
 }
 

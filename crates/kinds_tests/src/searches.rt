@@ -3,48 +3,40 @@ use super::casks::Casks;
 use kinds::RecordKind;
 use kinds::gyles::Gyles;
 use kinds::items::Items;
-use kinds::search::{Entry, Place, find, last_not_above};
+use kinds::search::{Entry, find, last_not_above};
 use std::process::Abort;
 
-fn there<K: RecordKind>(rt: &impl Abort, block: &[u8], key: &[u8], at: usize) {
-    assert_eq!(rt; find::<K>(block, key), Place { at, same: true });
-}
-
-fn free<K: RecordKind>(rt: &impl Abort, block: &[u8], key: &[u8], at: usize) {
-    assert_eq!(rt; find::<K>(block, key), Place { at, same: false });
+fn finds<K: RecordKind>(rt: &impl Abort, block: &[u8], key: &[u8], place: Result<usize, usize>) {
+    assert_eq!(rt; find::<K>(block, key), place);
 }
 
 /// Puts a key at the head of a record.
-fn put(block: &mut [u8; 512], start: usize, key: &[u8]) {
-    if start < 496 && key.len() <= 16 {
-        block[start..start + key.len()].copy_from_slice(key);
+fn put<const P: usize>(bytes: &mut [u8], key: &[u8; P]) {
+    if let Some(head) = bytes.first_chunk_mut() {
+        *head = *key;
     }
 }
 
 #[test]
 fn a_block_of_one_record(rt: HostRuntime) {
     let mut block = [0; 512];
-    put(&mut block, 0, &Gyles::key(-5, 7));
-    there::<Gyles>(&rt, &block[0..34], &Gyles::key(-5, 7), 0);
-    free::<Gyles>(&rt, &block[0..34], &Gyles::key(-5, 6), 0);
-    free::<Gyles>(&rt, &block[0..34], &Gyles::key(-5, 8), 1);
+    put(&mut block, &Gyles::key(-5, 7));
+    finds::<Gyles>(&rt, &block[0..34], &Gyles::key(-5, 7), Ok(0));
+    finds::<Gyles>(&rt, &block[0..34], &Gyles::key(-5, 6), Err(0));
+    finds::<Gyles>(&rt, &block[0..34], &Gyles::key(-5, 8), Err(1));
     assert_eq!(rt;
         find::<Gyles>(&block[0..33], &Gyles::key(-5, 7)),
-        Place { at: 0, same: false },
+        Err(0),
         "no whole record"
     );
-    free::<Gyles>(&rt, &[], &[], 0);
+    finds::<Gyles>(&rt, &[], &[], Err(0));
 }
 
 /// As many gyles as 512 bytes hold: number 7 of each other year from -14 on.
 fn full() -> [u8; 512] {
     let mut block = [255; 512];
-    for i in 0..15u8 {
-        put(
-            &mut block,
-            i as usize * 34,
-            &Gyles::key(i as i16 * 2 - 14, 7),
-        );
+    for (record, year) in block.chunks_exact_mut(34).zip((-14..).step_by(2)) {
+        put(record, &Gyles::key(year, 7));
     }
     block
 }
@@ -52,18 +44,16 @@ fn full() -> [u8; 512] {
 #[test]
 fn a_full_block(rt: HostRuntime) {
     let block = full();
-    for i in 0..15u8 {
-        let year = i as i16 * 2 - 14;
-        there::<Gyles>(&rt, &block, &Gyles::key(year, 7), i as usize);
-        free::<Gyles>(&rt, &block, &Gyles::key(year - 1, 7), i as usize);
+    for (i, year) in (-14..15).step_by(2).enumerate() {
+        finds::<Gyles>(&rt, &block, &Gyles::key(year, 7), Ok(i));
     }
-    free::<Gyles>(&rt, &block, &Gyles::key(i16::MIN, i32::MIN), 0);
+    for (i, year) in (-15..14).step_by(2).enumerate() {
+        finds::<Gyles>(&rt, &block, &Gyles::key(year, 7), Err(i));
+    }
+    finds::<Gyles>(&rt, &block, &Gyles::key(i16::MIN, i32::MIN), Err(0));
     assert_eq!(rt;
         find::<Gyles>(&block, &Gyles::key(i16::MAX, i32::MAX)),
-        Place {
-            at: 15,
-            same: false
-        },
+        Err(15),
         "two bytes are left over"
     );
 }
@@ -71,25 +61,25 @@ fn a_full_block(rt: HostRuntime) {
 #[test]
 fn blocks_of_other_kinds(rt: HostRuntime) {
     let mut items = [0; 512];
-    put(&mut items, 0, &Items::key([9; 8], 2024));
-    put(&mut items, 42, &Items::key([9; 8], 2023));
-    free::<Items>(&rt, &items[0..84], &Items::key([9; 8], 2025), 0);
-    there::<Items>(&rt, &items[0..84], &Items::key([9; 8], 2023), 1);
-    free::<Items>(&rt, &items[0..84], &Items::key([9; 8], 2022), 2);
+    put(&mut items, &Items::key([9; 8], 2024));
+    put(&mut items[42..], &Items::key([9; 8], 2023));
+    finds::<Items>(&rt, &items[0..84], &Items::key([9; 8], 2025), Err(0));
+    finds::<Items>(&rt, &items[0..84], &Items::key([9; 8], 2023), Ok(1));
+    finds::<Items>(&rt, &items[0..84], &Items::key([9; 8], 2022), Err(2));
     let mut casks = [0; 512];
-    put(&mut casks, 256, &[1; 16]);
-    there::<Casks>(&rt, &casks, &[0; 16], 0);
-    there::<Casks>(&rt, &casks, &[1; 16], 1);
-    free::<Casks>(&rt, &casks, &[2; 16], 2);
+    put(&mut casks[256..], &[1; 16]);
+    finds::<Casks>(&rt, &casks, &[0; 16], Ok(0));
+    finds::<Casks>(&rt, &casks, &[1; 16], Ok(1));
+    finds::<Casks>(&rt, &casks, &[2; 16], Err(2));
 }
 
 #[test]
 fn keys_of_a_wrong_length_are_looked_for(rt: HostRuntime) {
     let mut block = [0; 512];
-    put(&mut block, 0, &Gyles::key(1, 7));
-    there::<Gyles>(&rt, &block[0..34], &[0, 1, 0, 0, 0, 7, 9], 0);
-    free::<Gyles>(&rt, &block[0..34], &[0, 1], 0);
-    free::<Gyles>(&rt, &block[0..34], &[0, 2], 1);
+    put(&mut block, &Gyles::key(1, 7));
+    finds::<Gyles>(&rt, &block[0..34], &[0, 1, 0, 0, 0, 7, 9], Ok(0));
+    finds::<Gyles>(&rt, &block[0..34], &[0, 1], Err(0));
+    finds::<Gyles>(&rt, &block[0..34], &[0, 2], Err(1));
 }
 
 fn leads(rt: &impl Abort, table: &[Entry], key: &[u8], at: usize) {

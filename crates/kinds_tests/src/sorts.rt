@@ -7,18 +7,12 @@ use std::test::Fail;
 /// Records of gyles, each with a mark of its own in its last byte.
 fn marked(heap: Global, years: &[i16]) -> Result<Vec<u8>, AllocError> {
     let mut records = Vec::new(heap);
-    let mut mark = 0u8;
-    for year in years {
-        mark = mark.saturating_add(1);
+    for (mark, year) in (1..).zip(years) {
         records.extend_from_slice(&Gyles::key(*year, 1))?;
         records.extend_from_slice(&[0; 25])?;
         records.push(mark)?;
     }
     Ok(records)
-}
-
-fn byte(block: &[u8], i: usize) -> u8 {
-    if i < block.len() { block[i] } else { 0 }
 }
 
 #[test]
@@ -42,17 +36,10 @@ fn the_first_of_a_key_is_taken(rt: HostRuntime) -> Result<(), Fail> {
     let records = marked(rt.alloc(), &[3, -2, 3, 0, -2, i16::MIN, i16::MAX])?;
     let block = sorted::<Gyles>(rt.alloc(), &records)?;
     assert_eq!(rt; block.len(), 170);
-    let marks = [
-        byte(&block, 31),
-        byte(&block, 65),
-        byte(&block, 99),
-        byte(&block, 133),
-        byte(&block, 167),
-    ];
-    assert_eq!(rt; marks, [6, 2, 4, 1, 7]);
+    assert!(rt; block.iter().skip(31).step_by(34).eq(&[6, 2, 4, 1, 7]));
     assert_eq!(rt;
-        [byte(&block, 32), byte(&block, 169)],
-        [0, 0],
+        [block.get(32), block.get(169)],
+        [Some(&0), Some(&0)],
         "no movement hangs behind one"
     );
     Ok(())

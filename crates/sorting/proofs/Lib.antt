@@ -1,3 +1,4 @@
+pub mod Cutting
 pub mod Splicing
 pub mod Shifting
 pub mod Sorts

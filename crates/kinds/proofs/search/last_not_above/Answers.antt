@@ -1,15 +1,20 @@
-use Rattle.std.proofs.Common.{length}
-use Rattle.kinds.specs.Search.{bound_at}
+use Rattle.std.proofs.Common.{length, rules}
+use Rattle.kinds.specs.Search.{Turn, not_above}
 use Rattle.kinds.proofs.Places.{bytes, last_not_above}
 use Rattle.kinds.proofs.search.last_not_above.Goals as goal
 
 pub returns : goal.returns
 returns g c =
-    let m = g.K.RecordKind in
+    let m = g.K.RecordKind.kind in
     let entries = c.args.entries.now in
     let key = c.args.key.now in
+    let t = c.turning_point.result in
+    let turn : Turn (not_above m entries key) (length entries) t = record {
+      within = c.turning_point.ensures.within;
+      before = λ i e. let h = c.turning_point.ensures.before i e in search rules;
+      behind = λ l. let h = c.turning_point.ensures.behind l in search rules;
+    } in
     record {
-      turn = (c.first_above.result, c.first_above.ensures, c.saturating_sub.ensures);
-      last = λ l keyed up. last_not_above m.key_length m.order g.met.K.RecordKind.lawful (bound_at m.key_length entries) (length entries) keyed up key (l, bytes key c.type_inv.key)
-          c.first_above.result c.saturating_sub.result c.first_above.ensures c.saturating_sub.ensures;
+      turn = (t, turn, c.saturating_sub.ensures);
+      last = λ l up. last_not_above m g.met.K.RecordKind.lawful entries key up (l, bytes key c.type_inv.key) t c.saturating_sub.result turn c.saturating_sub.ensures;
     }
