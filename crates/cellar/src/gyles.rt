@@ -8,7 +8,7 @@ use std::str::from_utf8;
 
 fn show_order(rt: &HostRuntime, block: &[u8]) -> anyhow::Result<()> {
     for (place, record) in block.chunks_exact(Gyles::record_len() + 2).enumerate() {
-        if let Some(name) = GyleName::of(record) {
+        if let Ok(name) = GyleName::try_from(record) {
             println!(rt; "gyle {name} has place {place}")?;
         }
     }
@@ -32,7 +32,7 @@ pub(crate) fn show_gyles(rt: &HostRuntime, bytes: &[u8]) -> anyhow::Result<()> {
     let block = sorted::<Gyles>(rt.alloc(), &records)?;
     show_order(rt, &block)?;
     for line in text.lines() {
-        if let Line::Seek(name) = Line::read(line) {
+        if let Line::Seek(name) = Line::from(line) {
             show_place(rt, &block, name)?;
         }
     }

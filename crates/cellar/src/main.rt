@@ -8,7 +8,7 @@ mod gyles;
 mod report;
 mod text;
 
-use anyhow::anyhow;
+use anyhow::{Context, ensure};
 use areas::chained::ChainedArea;
 use areas::index::Chain;
 use areas::lends::{fill_chain, unchain};
@@ -35,23 +35,25 @@ fn round_trip(
     bytes: &[u8],
     n: u16,
 ) -> anyhow::Result<()> {
+    let n = usize::from(n);
     report(
         rt,
         "store in the chain",
         fill_chain(pool, chain, NO_FILE, 0, bytes),
     )?;
-    let mut memory = vec![in rt.alloc(); 0u8; n as usize * SEGMENT]?;
-    let mut back = vec![in rt.alloc(); 0u8; n as usize * SEGMENT]?;
+    let mut memory = vec![in rt.alloc(); 0u8; n * SEGMENT]?;
+    let mut back = vec![in rt.alloc(); 0u8; n * SEGMENT]?;
     report(
         rt,
         "copy to a plain area",
-        unchain(pool, chain, &mut memory, NO_FILE, n as usize),
+        unchain(pool, chain, &mut memory, NO_FILE, n),
     )?;
     let area = PlainArea::new(&mut memory);
     report(rt, "read back", read_span(&area, NO_FILE, 0, &mut back))?;
-    if back.as_slice() != bytes {
-        return Err(anyhow!("what was read back is not what was stored"));
-    }
+    ensure!(
+        back.as_slice() == bytes,
+        "what was read back is not what was stored"
+    );
     println!(rt; "what was read back is what was stored")?;
     Ok(())
 }
@@ -80,9 +82,7 @@ fn run(rt: &HostRuntime) -> anyhow::Result<()> {
     let heap = rt.alloc();
     let text = input(rt)?;
     let length = text.len();
-    let Some(n) = segments_for(length) else {
-        return Err(anyhow!("the text is too long for an area"));
-    };
+    let n = segments_for(length).context("the text is too long for an area")?;
     println!(rt; "a text of {length} bytes, {n} segments")?;
     let bytes = padded(heap, &text, n)?;
     let first = n + 1;

@@ -1,2 +1,2 @@
 pub mod Strokes
-pub mod Entries
+pub mod Lines

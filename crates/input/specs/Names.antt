@@ -9,8 +9,10 @@ use Rattle.input.specs.declared.names.Line.{Line}
 use Rattle.input.specs.declared.names.Line.TheVariants.{Enter, Seek, Words}
 
 -- the bytes are the number in decimal digits, with or without a sign before them, and it fits the width
-abbrev pub Writes : Width → List ℕ → ℤ → Type 0
-Writes w bytes z = IsNumeral 10 (without_leading_sign bytes) × FitsSigned w (signed_digits_value 10 bytes) × (z ≡ signed_digits_value 10 bytes)
+pub record Writes (w : Width) (bytes : List ℕ) (z : ℤ) : Type 0 where
+  pub numeral : IsNumeral 10 (without_leading_sign bytes)
+  pub fits : FitsSigned w (signed_digits_value 10 bytes)
+  pub value : z ≡ signed_digits_value 10 bytes
 
 -- the text is the year, a stroke (47) and the number
 pub record Spelled (text : List ℕ) (name : GyleName) : Type 0 where
@@ -20,6 +22,10 @@ pub record Spelled (text : List ℕ) (name : GyleName) : Type 0 where
   pub year : Writes w16 front name.year
   pub number : Writes w32 back name.number
 
+-- the text spells no gyle
+abbrev pub SpellsNone : List ℕ → Type 0
+SpellsNone text = (name : GyleName) → ¬ Spelled text name
+
 -- how a name is printed
 abbrev pub written : GyleName → List ℕ
 written name = signed_decimal name.year ++ (codes "/" ++ signed_decimal name.number)
@@ -28,7 +34,7 @@ written name = signed_decimal name.year ++ (codes "/" ++ signed_decimal name.num
 abbrev pub Means : List ℕ → Line → Type 0
 Means text (Enter name) = Spelled text name
 Means text (Seek name) = (rest : List ℕ) × (text ≡ codes "seek " ++ rest) × Spelled rest name
-Means text Words = (name : GyleName) → (Spelled text name → ⊥) × ((rest : List ℕ) → text ≡ codes "seek " ++ rest → Spelled rest name → ⊥)
+Means text Words = SpellsNone text × ((rest : List ℕ) → text ≡ codes "seek " ++ rest → SpellsNone rest)
 
 -- a gyle's record as a text enters it: a key that has its year and number, and zeros behind that
 pub record IsRecordOf (name : GyleName) (bytes : List ℕ) : Type 0 where
@@ -43,4 +49,4 @@ pub data Enters : List (List ℕ) → List ℕ → Type 0 where
   gyle : {lines : List (List ℕ)} {records : List ℕ} (line bytes : List ℕ) (name : GyleName)
       → Enters lines records → Spelled line name → IsRecordOf name bytes → Enters (lines ++ line ∷ []) (records ++ bytes)
   other : {lines : List (List ℕ)} {records : List ℕ} (line : List ℕ)
-      → Enters lines records → ((name : GyleName) → Spelled line name → ⊥) → Enters (lines ++ line ∷ []) records
+      → Enters lines records → SpellsNone line → Enters (lines ++ line ∷ []) records

@@ -1,12 +1,15 @@
 //! Gyles by name, as they stand in a text and in a key.
-ghost use Rattle.std.specs.Prelude.{◌≡◌, ℕ, ◌<◌, List, ◌++◌, length, drop, IfOk, Some, MatchOption, OnOk};
-ghost use Rattle.input.specs.Names.{Spelled, written, Means, IsRecordOf, Enters};
+ghost use Rattle.std.specs.Prelude.{◌≡◌, ℕ, ◌<◌, List, ◌++◌, length, drop, IfOk, Some, MatchResult, OnOk};
+ghost use Rattle.input.specs.Names.{Spelled, SpellsNone, written, Means, IsRecordOf, Enters};
 ghost use Rattle.std.specs.Str.Lines.{lines};
 ghost use Rattle.kinds.specs.Fields.{signed_of};
 
 use kinds::gyles::Gyles;
 use std::alloc::{AllocError, Global};
 use std::fmt;
+use std::num::ParseIntError;
+use std::str::FromStr;
+use thiserror::Error;
 
 /// A gyle's name: the year in which it was brewed, and its number.
 #[derive(Clone, Copy, PartialEq, Eq, Debug)]
@@ -16,50 +19,69 @@ pub struct GyleName {
 }
 
 impl GyleName {
-    /// Reads `YEAR/NUMBER`.
-    pub fn read(text: &str) -> Option<GyleName>
-        ensures { MatchOption result ((name : GyleName) → Spelled text.now name → ⊥) (λ name. Spelled text.now name) }
-    {
-        let Some((front, back)) = text.split_once('/') else {
-            return None;
-        };
-        let Ok(year) = front.parse::<i16>() else {
-            return None;
-        };
-        let Ok(number) = back.parse::<i32>() else {
-            return None;
-        };
-        Some(GyleName { year, number })
-    }
-
+    // A method and no `From`: `&name.key()` says more at a call than `&<[u8; 6]>::from(name)`.
     pub fn key(self) -> [u8; 6]
         ensures year { signed_of 2 result ≡ self.year }
         ensures number { signed_of 4 (drop 2 result) ≡ self.number }
     {
         Gyles::key(self.year, self.number)
     }
-
-    /// The name of the gyle whose record or key begins so, or none where that is too short.
-    pub fn of(record: &[u8]) -> Option<GyleName>
-        ensures { MatchOption result (length «record».now < 6) (λ name. (name.year ≡ signed_of 2 «record».now) × (name.number ≡ signed_of 4 (drop 2 «record».now))) }
-    {
-        let [a, b, c, d, e, f, ..] = record else {
-            return None;
-        };
-        Some(GyleName {
-            year: i16::from_be_bytes([*a, *b]),
-            number: i32::from_be_bytes([*c, *d, *e, *f]),
-        })
-    }
 }
 
+// By hand, since a derived message promises no text.
 impl fmt::Display for GyleName {
     ghost output = { λ name. Some (written name) };
 
     fn fmt<W: fmt::Write>(&self, f: &mut fmt::Formatter<W>) -> fmt::Result {
-        let year = self.year;
-        let number = self.number;
-        write!(f, "{year}/{number}")
+        write!(f, "{}/{}", self.year, self.number)
+    }
+}
+
+/// The text does not spell a gyle's name.
+#[derive(PartialEq, Eq, Debug, Drop, Error)]
+pub enum NotAGyle {
+    #[error("no stroke between a year and a number")]
+    NoStroke,
+    #[error("the year or the number: {0}")]
+    NoNumber(#[from] ParseIntError),
+}
+
+/// Reads `YEAR/NUMBER`.
+impl FromStr for GyleName {
+    type Err = NotAGyle;
+
+    ghost from_str_gives = { λ text r. MatchResult r (Spelled text) (λ _. SpellsNone text) };
+
+    fn from_str(text: &str) -> Result<GyleName, NotAGyle> {
+        let (year, number) = text.split_once('/').ok_or(NotAGyle::NoStroke)?;
+        Ok(GyleName {
+            year: year.parse()?,
+            number: number.parse()?,
+        })
+    }
+}
+
+/// The record or key is too short to begin with a gyle's key.
+#[derive(Clone, Copy, PartialEq, Eq, Debug, Error)]
+#[error("too short for a gyle's key")]
+pub struct TooShort;
+
+/// The name of the gyle whose record or key begins so.
+impl TryFrom<&[u8]> for GyleName {
+    type Error = TooShort;
+
+    ghost try_from_gives = { λ bytes r. MatchResult r
+        (λ name. (name.year ≡ signed_of 2 bytes.now) × (name.number ≡ signed_of 4 (drop 2 bytes.now)))
+        (λ _. length bytes.now < 6) };
+
+    fn try_from(record: &[u8]) -> Result<GyleName, TooShort> {
+        let [a, b, c, d, e, f, ..] = *record else {
+            return Err(TooShort);
+        };
+        Ok(GyleName {
+            year: i16::from_be_bytes([a, b]),
+            number: i32::from_be_bytes([c, d, e, f]),
+        })
     }
 }
 
@@ -71,20 +93,14 @@ pub enum Line {
     Words,
 }
 
-impl Line {
-    /// `YEAR/NUMBER` enters a gyle, and `seek YEAR/NUMBER` seeks one.
-    pub fn read(text: &str) -> Line
-        ensures { Means text.now result }
-    {
-        if let Some(rest) = text.strip_prefix("seek ") {
-            return match GyleName::read(rest) {
-                Some(name) => Line::Seek(name),
-                None => Line::Words,
-            };
-        }
-        match GyleName::read(text) {
-            Some(name) => Line::Enter(name),
-            None => Line::Words,
+/// `YEAR/NUMBER` enters a gyle, and `seek YEAR/NUMBER` seeks one.
+impl From<&str> for Line {
+    ghost from_gives = { λ text line. Means text.now line };
+
+    fn from(text: &str) -> Line {
+        match text.strip_prefix("seek ") {
+            Some(name) => name.parse().map_or(Line::Words, Line::Seek),
+            None => text.parse().map_or(Line::Words, Line::Enter),
         }
     }
 }
@@ -103,7 +119,7 @@ pub fn entered(heap: Global, text: &str) -> Result<Vec<u8>, AllocError>
 {
     let mut records = Vec::new(heap);
     for line in text.lines() {
-        if let Line::Enter(name) = Line::read(line) {
+        if let Line::Enter(name) = Line::from(line) {
             push_record(&mut records, name)?;
         }
     }
@@ -117,7 +133,7 @@ mod tests {
     use std::test::Fail;
 
     fn reads(rt: &impl Abort, text: &str, line: Line) {
-        assert_eq!(rt; Line::read(text), line);
+        assert_eq!(rt; Line::from(text), line);
     }
 
     #[test]
@@ -146,8 +162,8 @@ mod tests {
             year: i16::MAX,
             number: i32::MAX,
         };
-        assert_eq!(rt; GyleName::of(&most.key()), Some(most));
-        assert!(rt; GyleName::of(&[0; 5]).is_none());
+        assert_eq!(rt; GyleName::try_from(most.key().as_slice()), Ok(most));
+        assert_eq!(rt; GyleName::try_from([0; 5].as_slice()), Err(TooShort));
         let text = format!(in rt.alloc(); "{most}")?;
         assert!(rt; text.as_str() == "32767/2147483647");
         Ok(())

@@ -1,5 +1,6 @@
-use Rattle.std.proofs.Common.{◌≡◌, ◌*◌, vec_len}
+use Rattle.std.proofs.Common.{vec_items}
+use Rattle.cellar.proofs.Pages.{ChainsSoFar}
 use Rattle.cellar.proofs.text.laid_out.Given as goal
 
 abbrev pub invariant-loop-before : goal.invariant-loop-before
-invariant-loop-before l = vec_len l.pool ≡ l.before * 516
+invariant-loop-before l = ChainsSoFar l.pages (vec_items l.pool) l.before
