@@ -33,7 +33,7 @@ layer_number Ledger = 3
 
 -- a store knows of no file
 abbrev pub fault_of : Refusal → Fault
-fault_of r = record { number = number_of r; layer = Store; file = 0; segment = segment_of r }
+fault_of r = record { number = number_of r; layer = layer_number Store; file = 0; segment = segment_of r }
 
 -- a question before a step, with the fault that a no gives
 pub record Question : Type 0 where
@@ -69,4 +69,4 @@ named n (Err f) = Err (with_file n f)
 -- how a fault is written
 abbrev pub text_of : Fault → List ℕ
 text_of f =
-    codes "refused " ++ decimal f.number ++ codes " layer " ++ decimal (layer_number f.layer) ++ codes " file " ++ decimal f.file ++ codes " segment " ++ decimal f.segment
+    codes "refused " ++ decimal f.number ++ codes " layer " ++ decimal f.layer ++ codes " file " ++ decimal f.file ++ codes " segment " ++ decimal f.segment

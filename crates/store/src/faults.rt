@@ -41,7 +41,9 @@ pub struct Fault {
     /// The question that was answered no.
     // A number and no enum: each layer has questions of its own.
     pub number: u8,
-    pub layer: Layer,
+    /// 1 for a store, 2 for a file, 3 for a ledger.
+    // A number, as `file` is: a caller may name any, and `Layer` would refuse him. `Layer` has those that we give.
+    pub layer: u8,
     /// `NO_FILE`, `MOTHER_FILE` or `MOVEMENT_FILE`.
     pub file: u8,
     /// The segment in question, 0 where there is none.
@@ -76,7 +78,7 @@ impl From<Refusal> for Fault {
         };
         Fault {
             number,
-            layer: Layer::Store,
+            layer: Layer::Store.into(),
             file: NO_FILE,
             segment,
         }
@@ -105,7 +107,7 @@ impl fmt::Display for Fault {
 
     fn fmt<W: fmt::Write>(&self, f: &mut fmt::Formatter<W>) -> fmt::Result {
         let number = self.number;
-        let layer = u8::from(self.layer);
+        let layer = self.layer;
         let file = self.file;
         let segment = self.segment;
         write!(

@@ -5,7 +5,7 @@ use areas::index::Chain;
 use areas::plain::PlainArea;
 use std::test::Fail;
 use store::SegmentStore;
-use store::faults::{Fault, Layer, Refusal};
+use store::faults::{Fault, Refusal};
 
 #[test]
 fn a_fault_says_all(rt: HostRuntime) -> Result<(), Fail> {
@@ -14,7 +14,7 @@ fn a_fault_says_all(rt: HostRuntime) -> Result<(), Fail> {
         fault,
         Fault {
             number: 13,
-            layer: Layer::Store,
+            layer: 1,
             file: 2,
             segment: 70_000,
         }
