@@ -3,9 +3,8 @@ use Rattle.std.proofs.Common.{◌≡◌, ℕ, suc, ◌+◌, ◌-◌, ◌*◌, �
 use Rattle.std.proofs.lemmas.List.Elements.{All-from_get_or, All-take, All-drop}
 use Rattle.std.proofs.lemmas.Bool.{cases_lt, false_from_ne_true, true_from_ne_false}
 use Rattle.std.specs.Ordering.{is_lt, is_le, ordering_reverse}
-use Rattle.kinds.specs.declared.search.Entry.{Entry}
 use Rattle.kinds.specs.Laws.{Kind, Key, Sizes, Laws}
-use Rattle.kinds.specs.Search.{key_at, key_in, held_in, bound_at, Keyed, KeysAscend, BoundsAscend, Turn, below, not_above, FirstNotBelow, LastNotAbove, place_of, Looked, Found}
+use Rattle.kinds.specs.Search.{key_at, key_in, held_in, Keyed, Ascends, KeysAscend, Turn, key_below, key_not_above, below, FirstKeyNotBelow, LastKeyNotAbove, FirstNotBelow, place_of, Looked, Found}
 
 -- ---- where keys lie
 
@@ -56,19 +55,41 @@ module _ (test : ℕ → Bool) (n t : ℕ) (falls : (i j : ℕ) → i < j → j 
       (λ (k : i ≤ t). let z : t ≡ i = omega arith in subst (λ j. test j ≡ false) z here)
       (cases_lt t i)
 
+-- ---- any row of keys that ascend
+
+module _ (kind : Kind) (laws : Laws kind) (key : ℕ → List ℕ) (n : ℕ) (keyed : Keyed kind key n) (up : Ascends kind key n) (k : List ℕ) (sought : Key kind k) where
+  below_falls : (i j : ℕ) → i < j → j < n → key_below kind key k j ≡ true → key_below kind key k i ≡ true
+  below_falls i j l h e =
+      ap is_lt (laws.trans (key i) (key j) k (keyed i (omega arith)) (keyed j h) sought (up i j l h) (less_from (kind.order (key j) k) e))
+
+  not_above_falls : (i j : ℕ) → i < j → j < n → key_not_above kind key k j ≡ true → key_not_above kind key k i ≡ true
+  not_above_falls i j l h e =
+      let a = keyed i (omega arith) in
+      let b = keyed j h in
+      true_from_ne_false (key_not_above kind key k i) (λ f.
+      let back : kind.order k (key i) ≡ Less = laws.flip (key i) k a sought ∙ ap ordering_reverse (greater_from (kind.order (key i) k) f) in
+      let on : kind.order (key j) k ≡ Greater = laws.flip k (key j) sought b ∙ ap ordering_reverse (laws.trans k (key i) (key j) sought a b back (up i j l h)) in
+      true≢false (sym e ∙ ap is_le on))
+
+  pub first_not_below : (t : ℕ) → Turn (key_below kind key k) n t → FirstKeyNotBelow kind key n k t
+  first_not_below t turn = record {
+    within = turn.within;
+    before = λ i l. less_from (kind.order (key i) k) (true_before (key_below kind key k) n t below_falls turn i l);
+    behind = λ i l h e. true≢false (sym (ap is_lt e) ∙ false_behind (key_below kind key k) n t below_falls turn i l h);
+  }
+
+  pub last_not_above : (t r : ℕ) → Turn (key_not_above kind key k) n t → r ≡ t - 1 → LastKeyNotAbove kind key n k r
+  last_not_above t r turn e = record {
+    within = omega (arith, turn.within);
+    upto = λ i some l g. true≢false (sym (true_before (key_not_above kind key k) n t not_above_falls turn i (omega arith)) ∙ ap is_le g);
+    behind = λ i l h. greater_from (kind.order (key i) k) (false_behind (key_not_above kind key k) n t not_above_falls turn i (omega arith) h);
+  }
+
 -- ---- a block
 
 module _ (kind : Kind) (laws : Laws kind) (block k : List ℕ) (keyed : Keyed kind (key_in kind block) (held_in kind block)) (up : KeysAscend kind block) (sought : Key kind k) where
-  below_falls : (i j : ℕ) → i < j → j < held_in kind block → below kind block k j ≡ true → below kind block k i ≡ true
-  below_falls i j l h e =
-      ap is_lt (laws.trans (key_in kind block i) (key_in kind block j) k (keyed i (omega arith)) (keyed j h) sought (up i j l h) (less_from (kind.order (key_in kind block j) k) e))
-
-  first_not_below : (t : ℕ) → Turn (below kind block k) (held_in kind block) t → FirstNotBelow kind block k t
-  first_not_below t turn = record {
-    within = turn.within;
-    before = λ i l. less_from (kind.order (key_in kind block i) k) (true_before (below kind block k) (held_in kind block) t below_falls turn i l);
-    behind = λ i l h e. true≢false (sym (ap is_lt e) ∙ false_behind (below kind block k) (held_in kind block) t below_falls turn i l h);
-  }
+  first_in : (t : ℕ) → Turn (below kind block k) (held_in kind block) t → FirstNotBelow kind block k t
+  first_in = first_not_below kind laws (key_in kind block) (held_in kind block) keyed up k sought
 
   same_pins : (i : ℕ) → i < held_in kind block → (kind.order (key_in kind block i) k ≡ Equal → key_in kind block i ≡ k) × (key_in kind block i ≡ k → kind.order (key_in kind block i) k ≡ Equal)
   same_pins i l = laws.same (key_in kind block i) k (keyed i l) sought
@@ -87,11 +108,11 @@ module _ (kind : Kind) (laws : Laws kind) (block k : List ℕ) (keyed : Keyed ki
 
   nowhere : (r : Result ℕ ℕ) → Looked kind block k r → OnErr r ((i : ℕ) → i < held_in kind block → key_in kind block i ≡ k → ⊥)
   nowhere (Ok at) looked = tt
-  nowhere (Err at) looked = λ i l e. true≢false (sym (looked.same.1 (elsewhere at (first_not_below at looked.turn) i l e)))
+  nowhere (Err at) looked = λ i l e. true≢false (sym (looked.same.1 (elsewhere at (first_in at looked.turn) i l e)))
 
   found : (r : Result ℕ ℕ) → Looked kind block k r → Found kind block k r
   found r looked = record {
-    first = first_not_below (place_of r) looked.turn;
+    first = first_in (place_of r) looked.turn;
     here = (λ t. let h = looked.same.0 t in (h.0, (same_pins (place_of r) h.0).0 h.1), λ h. looked.same.1 (h.0, (same_pins (place_of r) h.0).1 h.1));
     nowhere = nowhere r looked;
   }
@@ -102,23 +123,3 @@ pub found_in : (kind : Kind) → Sizes kind → Laws kind → (block k : List �
 found_in kind sizes laws block k fb fk r looked e up =
     let s : kind.key_length ≤ kind.record_length + 2 = omega (arith, sizes.inside) in
     found kind laws block k (keyed_at kind (kind.record_length + 2) block (bytes block fb) s) up (e, bytes k fk) r looked
-
--- ---- a table
-
-module _ (kind : Kind) (laws : Laws kind) (entries : List Entry) (k : List ℕ) (up : BoundsAscend kind entries) (sought : Key kind k) where
-  not_above_falls : (i j : ℕ) → i < j → j < length entries → not_above kind entries k j ≡ true → not_above kind entries k i ≡ true
-  not_above_falls i j l h e =
-      let key = bound_at kind entries in
-      let a = up.keyed i (omega arith) in
-      let b = up.keyed j h in
-      true_from_ne_false (not_above kind entries k i) (λ f.
-      let back : kind.order k (key i) ≡ Less = laws.flip (key i) k a sought ∙ ap ordering_reverse (greater_from (kind.order (key i) k) f) in
-      let on : kind.order (key j) k ≡ Greater = laws.flip k (key j) sought b ∙ ap ordering_reverse (laws.trans k (key i) (key j) sought a b back (up.ascend i j l h)) in
-      true≢false (sym e ∙ ap is_le on))
-
-  pub last_not_above : (t r : ℕ) → Turn (not_above kind entries k) (length entries) t → r ≡ t - 1 → LastNotAbove kind entries k r
-  last_not_above t r turn e = record {
-    within = omega (arith, turn.within);
-    upto = λ i some l g. true≢false (sym (true_before (not_above kind entries k) (length entries) t not_above_falls turn i (omega arith)) ∙ ap is_le g);
-    behind = λ i l h. greater_from (kind.order (bound_at kind entries i) k) (false_behind (not_above kind entries k) (length entries) t not_above_falls turn i (omega arith) h);
-  }

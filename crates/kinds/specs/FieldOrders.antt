@@ -36,9 +36,9 @@ back c total x y above = total.antisymm y x ∙ above
 pub alike_right : {K : Type 0} (c : K → K → Ordering) → IsTotalOrder c → (x y z : K) → c x y ≡ Equal → c z x ≡ c z y
 alike_right c total x y z level = total.antisymm z x ∙ ap ordering_reverse (total.congr x y z level) ∙ sym (total.antisymm z y)
 
-pub either_way : (order : Order) (down : Bool) → IsTotalOrder order → IsTotalOrder (λ a b. directed down (order a b))
-either_way order true s = subst IsTotalOrder (λ i a b. s.antisymm b a i) (back_total s)
-either_way order false s = s
+pub either_way : {K : Type 0} (c : K → K → Ordering) (down : Bool) → IsTotalOrder c → IsTotalOrder (λ a b. directed down (c a b))
+either_way c true s = subst IsTotalOrder (λ i a b. s.antisymm b a i) (back_total s)
+either_way c false s = s
 
 field_total : (f : Field) → IsTotalOrder (by_field f)
 field_total f = either_way (λ a b. if f.signed then by_signed f.width a b else by_bytes f.width a b) f.descending (by_sign_total f.signed f.width)

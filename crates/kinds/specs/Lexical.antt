@@ -9,7 +9,8 @@ use Rattle.std.proofs.lemmas.Bool.Decides.{nat_tests}
 use Rattle.std.proofs.lemmas.List.FromFn.{length-map-range_with_len, map-range_with_len_more}
 use Rattle.std.specs.Cmp.{IsTotalOrder, nat_cmp_total, on_total, then_total, nat_cmp_is, ranked}
 use Rattle.std.specs.Cmp.Lexicographic.{slice_cmp}
-use Rattle.std.specs.List.{range_with_len}
+use Rattle.std.specs.List.{range_with_len, find}
+use Rattle.std.specs.Option.{unwrap_or}
 use Rattle.std.specs.Ordering.{is_ne, ordering_reverse, ordering_then, nat_cmp}
 use Rattle.kinds.specs.Fields.{by_bytes}
 
@@ -34,7 +35,7 @@ pub lex-digits : (u v : ℕ → ℕ) → ((i : ℕ) → u i < 256) → ((i : ℕ
 lex-digits u v p q zero = refl
 lex-digits u v p q (suc n) = rank_more (digits u n) (digits v n) (u n) (v n) (p n) (q n) ∙ ap (λ o. ordering_then o (nat_cmp (u n) (v n))) (lex-digits u v p q n)
 
--- ---- the rows as lists
+-- ---- the rows as lists (for whoever compares them whole)
 
 then_step : (o p q : Ordering) → ordering_then o (ordering_then p q) ≡ ordering_then (ordering_then o p) q
 then_step Less p q = refl
@@ -68,7 +69,7 @@ rows_lex u v (suc n) =
     more : (w : ℕ → ℕ) (n : ℕ) → row w (suc n) ≡ row w n ++ w n ∷ []
     more w n = ap (row w) (sym (add-one n)) ∙ map-range_with_len_more w 0 n n (omega arith)
 
--- ---- the place that decides (for whoever compares step by step; the code compares rows)
+-- ---- the place that decides (for whoever compares step by step)
 
 pub lex_more : (u v : ℕ → ℕ) (i : ℕ) → lex u v i ≡ Equal → nat_cmp (u i) (v i) ≡ Equal → lex u v (i + 1) ≡ Equal
 lex_more u v i before here = rw add-one (ap₂ ordering_then before here)
@@ -86,6 +87,28 @@ lex_decided u v i (suc n) o before l here differs =
     (λ (k : i < n). ap (λ p. ordering_then p (nat_cmp (u n) (v n))) (lex_decided u v i n o before k here differs) ∙ settled o (nat_cmp (u n) (v n)) differs)
     (λ (k : n ≤ i). let z : i ≡ n = omega arith in subst (λ m. lex u v (suc m) ≡ o) z (ap₂ ordering_then before here))
     (cases_lt i n)
+
+-- ---- the first answer that decides, as the code finds it
+
+-- the first that is no Equal, or else Equal
+abbrev pub first_ne : List Ordering → Ordering
+first_ne os = unwrap_or (find is_ne os) Equal
+
+first_ne_more : (os : List Ordering) (o : Ordering) → first_ne (os ++ o ∷ []) ≡ ordering_then (first_ne os) o
+first_ne_more [] Less = refl
+first_ne_more [] Equal = refl
+first_ne_more [] Greater = refl
+first_ne_more (Less ∷ os) o = refl
+first_ne_more (Equal ∷ os) o = first_ne_more os o
+first_ne_more (Greater ∷ os) o = refl
+
+pub first_ne_lex : (u v : ℕ → ℕ) (n : ℕ) → first_ne (map (λ i. nat_cmp (u i) (v i)) (range_with_len 0 n)) ≡ lex u v n
+first_ne_lex u v zero = refl
+first_ne_lex u v (suc n) =
+    let f : ℕ → Ordering = λ i. nat_cmp (u i) (v i) in
+    ap first_ne (ap (λ m. map f (range_with_len 0 m)) (sym (add-one n)) ∙ map-range_with_len_more f 0 n n (omega arith))
+    ∙ first_ne_more (map f (range_with_len 0 n)) (f n)
+    ∙ ap (λ o. ordering_then o (f n)) (first_ne_lex u v n)
 
 -- ---- the laws
 

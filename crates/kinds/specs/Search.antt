@@ -48,23 +48,38 @@ pub record Turn (test : ℕ → Bool) (n t : ℕ) : Type 0 where
   pub before : (i : ℕ) → suc i ≡ t → test i ≡ true
   pub behind : t < n → test t ≡ false
 
+-- two tests of any row of keys, and the same of a block and of a table
+abbrev pub key_below : Kind → (ℕ → List ℕ) → List ℕ → ℕ → Bool
+key_below kind key k i = is_lt (kind.order (key i) k)
+
+abbrev pub key_not_above : Kind → (ℕ → List ℕ) → List ℕ → ℕ → Bool
+key_not_above kind key k i = is_le (kind.order (key i) k)
+
 abbrev pub below : Kind → List ℕ → List ℕ → ℕ → Bool
-below kind block k i = is_lt (kind.order (key_in kind block i) k)
+below kind block = key_below kind (key_in kind block)
 
 abbrev pub not_above : Kind → List Entry → List ℕ → ℕ → Bool
-not_above kind entries k i = is_le (kind.order (bound_at kind entries i) k)
+not_above kind entries = key_not_above kind (bound_at kind entries)
 
--- r is the place of the first record whose key is not below k, or how many records there are
-pub record FirstNotBelow (kind : Kind) (block k : List ℕ) (r : ℕ) : Type 0 where
-  pub within : r ≤ held_in kind block
-  pub before : (i : ℕ) → i < r → kind.order (key_in kind block i) k ≡ Less
-  pub behind : (i : ℕ) → r ≤ i → i < held_in kind block → kind.order (key_in kind block i) k ≢ Less
+-- r is the place of the first of n keys that is not below k, or n
+pub record FirstKeyNotBelow (kind : Kind) (key : ℕ → List ℕ) (n : ℕ) (k : List ℕ) (r : ℕ) : Type 0 where
+  pub within : r ≤ n
+  pub before : (i : ℕ) → i < r → kind.order (key i) k ≡ Less
+  pub behind : (i : ℕ) → r ≤ i → i < n → kind.order (key i) k ≢ Less
 
--- r is the place of the last entry whose bound is not above k, or else the first place
-pub record LastNotAbove (kind : Kind) (entries : List Entry) (k : List ℕ) (r : ℕ) : Type 0 where
-  pub within : r ≤ length entries - 1
-  pub upto : (i : ℕ) → 0 < r → i ≤ r → kind.order (bound_at kind entries i) k ≢ Greater
-  pub behind : (i : ℕ) → r < i → i < length entries → kind.order (bound_at kind entries i) k ≡ Greater
+-- the same of the records of a block
+abbrev pub FirstNotBelow : Kind → List ℕ → List ℕ → ℕ → Type 0
+FirstNotBelow kind block = FirstKeyNotBelow kind (key_in kind block) (held_in kind block)
+
+-- r is the place of the last of n keys that is not above k, or else the first place
+pub record LastKeyNotAbove (kind : Kind) (key : ℕ → List ℕ) (n : ℕ) (k : List ℕ) (r : ℕ) : Type 0 where
+  pub within : r ≤ n - 1
+  pub upto : (i : ℕ) → 0 < r → i ≤ r → kind.order (key i) k ≢ Greater
+  pub behind : (i : ℕ) → r < i → i < n → kind.order (key i) k ≡ Greater
+
+-- the same of the bounds of a table
+abbrev pub LastNotAbove : Kind → List Entry → List ℕ → ℕ → Type 0
+LastNotAbove kind entries = LastKeyNotAbove kind (bound_at kind entries) (length entries)
 
 -- the place that an answer names
 abbrev pub place_of : Result ℕ ℕ → ℕ

@@ -54,13 +54,16 @@ impl Field {
         ensures { result ≡ by_field self a.now b.now }
     {
         let order = (0..self.width)
-            .map(|i| self.weight(a, i))
-            .cmp((0..self.width).map(|i| self.weight(b, i)));
+            .map(|i| self.weight(a, i).cmp(&self.weight(b, i)))
+            .find(|order| order.is_ne())
+            .unwrap_or(Ordering::Equal);
         self.direct(order)
     }
 }
 
 /// The order of two keys by each field in turn. A short key counts as filled up with zeros.
+// Drawn into each kind's `compare`, where the fields are known: as a call it takes three times as long.
+#[inline(always)]
 pub fn compare_fields(fields: &[Field], a: &[u8], b: &[u8]) -> Ordering
     ensures { result ≡ by_fields fields.now a.now b.now }
 {

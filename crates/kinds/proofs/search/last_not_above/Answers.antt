@@ -1,5 +1,5 @@
 use Rattle.std.proofs.Common.{length, rules}
-use Rattle.kinds.specs.Search.{Turn, not_above}
+use Rattle.kinds.specs.Search.{Turn, bound_at, not_above}
 use Rattle.kinds.proofs.Places.{bytes, last_not_above}
 use Rattle.kinds.proofs.search.last_not_above.Goals as goal
 
@@ -16,5 +16,5 @@ returns g c =
     } in
     record {
       turn = (t, turn, c.saturating_sub.ensures);
-      last = λ l up. last_not_above m g.met.K.RecordKind.lawful entries key up (l, bytes key c.type_inv.key) t c.saturating_sub.result turn c.saturating_sub.ensures;
+      last = λ l up. last_not_above m g.met.K.RecordKind.lawful (bound_at m entries) (length entries) up.keyed up.ascend key (l, bytes key c.type_inv.key) t c.saturating_sub.result turn c.saturating_sub.ensures;
     }
