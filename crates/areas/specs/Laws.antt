@@ -1,5 +1,5 @@
 -- What every store owes of its row, shown of each cut. Assumes nothing.
-use Rattle.std.specs.Prelude.{◌≡◌, ℕ, zero, suc, ◌+◌, ◌/◌, ◌%◌, ◌<◌, ◌≤◌, true, List, [], ◌∷◌, length, max, slice_index, slice_index_or}
+use Rattle.std.specs.Prelude.{◌≡◌, ℕ, zero, suc, ◌+◌, ◌/◌, ◌%◌, ◌<◌, ◌≤◌, true, List, [], ◌∷◌, length, max, ◌≢◌, slice_index, slice_index_or}
 use Rattle.std.proofs.Common.{refl, sym, ◌∙◌, ⊎_elim, arith}
 use Rattle.std.proofs.lemmas.Grind.{common_steps}
 use Rattle.std.proofs.lemmas.Bool.Decides.{nat_tests}
@@ -25,6 +25,9 @@ whole_means size n h = record {
 
 pub length-bytes_from : (m : List ℕ) (a : ℕ) → a + 512 ≤ length m → length (bytes_from m a) ≡ 512
 length-bytes_from m a inside = grind (arith, common_steps)
+
+bad_not_good : (bytes : List ℕ) → bad ≢ good bytes
+bad_not_good bytes e = cc
 
 -- a row of segments that are each bad or hold 512 bytes
 pub proper_from : (row : List Segment) → 0 < length row → length row ≤ 65535

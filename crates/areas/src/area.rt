@@ -47,12 +47,12 @@ impl<C: Cut> Area<'_, C> {
         if size != SEGMENT {
             return Err(Refusal::WrongBuffer);
         }
-        if segment >= self.count() {
-            return Err(Refusal::NoSegment(segment));
+        // The count is for a refusal alone: a segment that begins somewhere is there.
+        match self.cut.start(self.memory, segment) {
+            Some(start) => Ok(start),
+            None if segment < self.count() => Err(Refusal::BadSegment(segment)),
+            None => Err(Refusal::NoSegment(segment)),
         }
-        self.cut
-            .start(self.memory, segment)
-            .ok_or(Refusal::BadSegment(segment))
     }
 }
 
