@@ -28,7 +28,7 @@ fn turning_point<F: Fn(usize) -> bool>(n: usize, test: F) -> usize
     let mut low = 0;
     let mut high = n;
     while low < high {
-        // Not std's `midpoint`, which cannot know that `low` is below `high`: a sort takes a seventh longer by it.
+        // Not std's `midpoint`, which cannot know that `low` is below `high`, and takes more steps.
         let mid = low + (high - low) / 2;
         if test(mid) {
             low = mid + 1;
