@@ -62,7 +62,7 @@ impl Field {
 }
 
 /// The order of two keys by each field in turn. A short key counts as filled up with zeros.
-// Drawn into each kind's `compare`, where the fields are known: as a call it takes three times the instructions.
+// Drawn into each kind's `compare`, where the fields are known and much of it falls away.
 #[inline(always)]
 pub fn compare_fields(fields: &[Field], a: &[u8], b: &[u8]) -> Ordering
     ensures { result ≡ by_fields fields.now a.now b.now }
